@@ -1,0 +1,5 @@
+pub mod Greatest
+pub mod Milliwatts
+pub mod Rating
+pub mod RatingFaults
+pub mod Timers

@@ -1,0 +1,32 @@
+-- The moments of a reversion timer, in milliseconds, and the last moment at which a write may still act.
+use Rattle.std.specs.Prelude.{◌≡◌, ℕ, ◌+◌, ◌-◌, ◌*◌, ◌/◌, ◌<◌, ◌≤◌, nat_lt, ◌||◌, if◌then◌else◌, Option, Some, None}
+use Rattle.std.specs.Int.{div_ceil}
+use Rattle.limiter_num.specs.declared.rules.Rules.{Rules}
+use Rattle.limiter_num.specs.declared.rules.RulesOut.{RulesOut}
+use Rattle.limiter_num.specs.declared.rules.RulesField.{RulesField}
+use Rattle.limiter_num.specs.declared.rules.RulesField.TheVariants.{Send, Delay, Timer, PerMille, Slack}
+
+-- the latest moment after an act at which its timer runs out
+unfoldable pub tmax : Rules → ℕ
+tmax rules = div_ceil (rules.timer * 1000 * (1000 + rules.per_mille)) 1000 + rules.slack
+
+-- the earliest moment after an act at which its timer runs out
+unfoldable pub tmin : Rules → ℕ
+tmin rules = rules.timer * 1000 * (1000 - rules.per_mille) / 1000 - rules.slack
+
+-- how long after its grant a write may still be held
+unfoldable pub reach : Rules → ℕ
+reach rules = rules.send + rules.delay + tmax rules
+
+abbrev out : RulesField → ℕ → Option RulesOut
+out field value = Some (record { field = field; value = value })
+
+-- the first of these numbers that is out of its range
+abbrev pub rules_out : ℕ → ℕ → ℕ → ℕ → ℕ → Option RulesOut
+rules_out send delay timer per_mille slack =
+    if nat_lt send 1 || nat_lt 60000 send then out Send send
+    else if nat_lt 600000 delay then out Delay delay
+    else if nat_lt timer 1 || nat_lt 86400 timer then out Timer timer
+    else if nat_lt 500 per_mille then out PerMille per_mille
+    else if nat_lt 600000 slack then out Slack slack
+    else None

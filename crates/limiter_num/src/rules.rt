@@ -1,0 +1,147 @@
+ghost use Rattle.std.specs.Prelude.{◌≡◌, ◌<◌, ◌≤◌, MatchResult, IfOk, None, Some};
+
+/// A number of `Rules`.
+#[derive(Clone, Copy, Debug, PartialEq, Eq)]
+pub enum RulesField {
+    Send,
+    Delay,
+    Timer,
+    PerMille,
+    Slack,
+}
+
+/// The first number that is out of its range.
+#[derive(Clone, Copy, Debug, PartialEq, Eq)]
+pub struct RulesOut {
+    pub field: RulesField,
+    pub value: u32,
+}
+
+/// What the site takes for granted of its links and of the inverters' reversion timers.
+#[derive(Clone, Copy, Debug, PartialEq, Eq)]
+pub struct Rules {
+    /// How long after its grant a write may be sent, in ms, 1 to 60,000.
+    pub send: u32,
+    /// How long a frame that was sent may take to act, in ms, 0 to 600,000.
+    pub delay: u32,
+    /// WMaxLimPctRvrtTms of 704, in s, 1 to 86,400.
+    pub timer: u32,
+    /// The tolerance of the timer, in thousandths, 0 to 500.
+    pub per_mille: u16,
+    /// What the timer may be off besides, in ms, 0 to 600,000.
+    pub slack: u32,
+    pub ghost send_low: { 1 ≤ send },
+    pub ghost send_high: { send ≤ 60000 },
+    pub ghost delay_high: { delay ≤ 600000 },
+    pub ghost timer_low: { 1 ≤ timer },
+    pub ghost timer_high: { timer ≤ 86400 },
+    pub ghost per_mille_high: { per_mille ≤ 500 },
+    pub ghost slack_high: { slack ≤ 600000 },
+}
+
+impl Rules {
+    ghost use Rattle.limiter_num.specs.Timers.{tmin, tmax, reach, rules_out};
+
+    /// Checks the numbers, in the order of the parameters.
+    pub fn new(
+        send: u32,
+        delay: u32,
+        timer: u32,
+        per_mille: u16,
+        slack: u32,
+    ) -> Result<Rules, RulesOut>
+        ensures fault { MatchResult result
+            (λ _. rules_out send delay timer per_mille slack ≡ None)
+            (λ fault. rules_out send delay timer per_mille slack ≡ Some fault) }
+        ensures numbers { IfOk result (λ rules. (rules.send ≡ send) × (rules.delay ≡ delay) × (rules.timer ≡ timer)
+            × (rules.per_mille ≡ per_mille) × (rules.slack ≡ slack)) }
+    {
+        if send < 1 || send > 60_000 {
+            return Err(RulesOut {
+                field: RulesField::Send,
+                value: send,
+            });
+        }
+        if delay > 600_000 {
+            return Err(RulesOut {
+                field: RulesField::Delay,
+                value: delay,
+            });
+        }
+        if timer < 1 || timer > 86_400 {
+            return Err(RulesOut {
+                field: RulesField::Timer,
+                value: timer,
+            });
+        }
+        if per_mille > 500 {
+            return Err(RulesOut {
+                field: RulesField::PerMille,
+                value: u32::from(per_mille),
+            });
+        }
+        if slack > 600_000 {
+            return Err(RulesOut {
+                field: RulesField::Slack,
+                value: slack,
+            });
+        }
+        Ok(Rules {
+            send,
+            delay,
+            timer,
+            per_mille,
+            slack,
+        })
+    }
+
+    #[tactic(auto, unfolding(crate::specs::Timers::tmin))]
+    /// The earliest moment after an act at which the timer runs out, in ms.
+    pub fn tmin(&self) -> u64
+        ensures { result ≡ tmin self.now }
+    {
+        (u64::from(self.timer) * 1000 * (1000 - u64::from(self.per_mille)) / 1000).saturating_sub(
+            u64::from(self.slack),
+        )
+    }
+
+    #[tactic(auto, unfolding(crate::specs::Timers::tmax))]
+    /// The latest moment after an act at which the timer runs out, in ms.
+    pub fn tmax(&self) -> u64
+        ensures moment { result ≡ tmax self.now }
+        ensures below { result ≤ 130200000 }
+    {
+        (u64::from(self.timer) * 1000 * (1000 + u64::from(self.per_mille))).div_ceil(1000)
+            + u64::from(self.slack)
+    }
+
+    #[tactic(auto, unfolding(crate::specs::Timers::reach))]
+    /// How long after its grant a write may still be held, in ms: the send window, the delay and the timer.
+    pub fn reach(&self) -> u64
+        ensures moment { result ≡ reach self.now }
+        ensures below { result ≤ 130860000 }
+    {
+        u64::from(self.send) + u64::from(self.delay) + self.tmax()
+    }
+}
+
+#[cfg(test)]
+mod tests {
+    use super::*;
+
+    #[test]
+    fn a_timer_of_a_minute_ends_within_its_tolerance(rt: HostRuntime) {
+        let rules = Rules::new(1_000, 4_000, 60, 20, 500);
+        assert!(rt; rules.is_ok());
+        if let Ok(rules) = rules {
+            assert_eq!(rt; rules.tmin(), 58_300);
+            assert_eq!(rt; rules.tmax(), 61_700);
+            assert_eq!(rt; rules.reach(), 66_700);
+        }
+        let out = RulesOut {
+            field: RulesField::Timer,
+            value: 0,
+        };
+        assert_eq!(rt; Rules::new(1, 0, 0, 501, 0), Err(out));
+    }
+}

@@ -1,0 +1,77 @@
+ghost use Rattle.std.specs.Prelude.{◌≡◌, ◌<◌, ◌≤◌, ◌↔◌, ◌⊎◌, [], ◌++◌, Contains, IsErr, IfOk, OnErr, Some, length, ℕ, List};
+ghost use Rattle.std.specs.Io.{WritesAtMost};
+ghost use Rattle.std.specs.Io.KnownBytes.{WriteAppends};
+ghost use Rattle.world_traits.specs.Causes.{HasCause, Rose};
+
+use crate::schedule::Schedule;
+use crate::sink::{Sink, WriteFailed};
+use std::alloc::Global;
+use std::marker::Model;
+
+/// A sink that keeps in memory what it took. It takes each piece whole, and fails exactly at the calls whose
+/// numbers are listed, counted from 0, and where memory runs out.
+#[derive(Debug, Drop)]
+pub struct BytesSink {
+    taken: Vec<u8>,
+    schedule: Schedule,
+    starved: u64,
+}
+
+impl Model for BytesSink {
+    ghost use Rattle.world_traits.specs.Fakes.{SinkState};
+
+    ghost Value = { SinkState };
+
+    ghost view = { λ s. record { taken = s.taken.items; schedule = s.schedule; starved = s.starved } };
+}
+
+impl BytesSink {
+    pub fn new(alloc: Global, failing: Vec<u32>) -> Self
+        ensures { result ≡ record { taken = []; schedule = record { failing = failing.items; calls = 0; faults = 0 }; starved = 0 } }
+    {
+        BytesSink {
+            taken: Vec::new(alloc),
+            schedule: Schedule::new(failing),
+            starved: 0,
+        }
+    }
+
+    /// The bytes that were taken so far.
+    pub fn taken(&self) -> &[u8]
+        ensures { result.now ≡ self.now.taken }
+    {
+        &self.taken
+    }
+
+    /// How often memory ran out in a write.
+    pub fn starved(&self) -> u64
+        ensures { result ≡ self.now.starved }
+    {
+        self.starved
+    }
+}
+
+impl Sink for BytesSink {
+    ghost taken = { λ s. Some s.taken };
+
+    ghost faults = { λ s. s.schedule.faults };
+
+    fn write(&mut self, bytes: &[u8]) -> Result<usize, WriteFailed>
+        ensures bound { WritesAtMost result bytes.now }
+        ensures some { IfOk result (λ count. 0 < length bytes.now → 0 < count) }
+        ensures bytes { WriteAppends (Some self.old.taken) (Some self.new.taken) result bytes.now }
+        ensures cause { HasCause self.old.schedule.faults self.new.schedule.faults result }
+        ensures listed_fails { Contains self.old.schedule.failing self.old.schedule.calls → IsErr result }
+        ensures fails { OnErr result (Contains self.old.schedule.failing self.old.schedule.calls ⊎ Rose self.old.starved self.new.starved) }
+    {
+        if self.schedule.next_fails() {
+            return Err(WriteFailed);
+        }
+        if self.taken.extend_from_slice(bytes).is_err() {
+            self.starved = self.starved.saturating_add(1);
+            self.schedule.fault();
+            return Err(WriteFailed);
+        }
+        Ok(bytes.len())
+    }
+}
