@@ -196,7 +196,8 @@ impl Rating {
 
     /// The milliwatts that a raw percentage stands for, rounded up.
     pub fn mw(&self, raw: u16) -> u64
-        ensures { result ≡ mw self.now raw }
+        ensures watts { result ≡ mw self.now raw }
+        ensures below { result ≤ 65535 * 10 ^ 12 }
     {
         milliwatts(self.wmax, self.wsf, self.psf, raw) as u64
     }

@@ -13,3 +13,11 @@ overflow_cast-result c =
     let psf : FitsSigned w8 r.psf = search rules in
     let milliwatts = simp to_z-of_z at c.milliwatts.ensures in
     omega (arith, milliwatts, mw_fits r.wmax c.args.raw r.wsf r.psf (omega arith) r.sound.resolves r.sound.rated_small)
+
+pub returns-clause-below : goal.returns-clause-below
+returns-clause-below c =
+    let r = c.args.self.now in
+    let wsf : FitsSigned w8 r.wsf = search rules in
+    let psf : FitsSigned w8 r.psf = search rules in
+    let milliwatts = simp to_z-of_z at c.milliwatts.ensures in
+    omega (arith, milliwatts, mw_fits r.wmax c.args.raw r.wsf r.psf (omega arith) r.sound.resolves r.sound.rated_small)

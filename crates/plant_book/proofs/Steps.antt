@@ -1,0 +1,56 @@
+-- What one more entry at the end of a book changes.
+use Rattle.std.proofs.Common.{◌≡◌, ℕ, suc, ◌+◌, ◌-◌, ◌<◌, ◌≤◌, Bool, true, false, cond, not, List, [], ◌∷◌, ◌++◌, length, take, drop, get_or, refl, sym, ap, ◌∙◌, append_assoc, arith}
+use Rattle.std.specs.Prelude.{reverse, count_by}
+use Rattle.std.specs.List.{after_last, prefix_len, suffix_len}
+use Rattle.std.proofs.lemmas.List.{length-append, length_push, take_more, drop-append-le, drop_all, reverse-append}
+use Rattle.std.proofs.lemmas.List.Sums.{suffix_len-le-length, sum_by-append}
+use Rattle.plant_book.specs.declared.book.Entry.{Entry}
+use Rattle.plant_book.specs.Calls.{moment, latest}
+use Rattle.plant_book.specs.Requests.{is_link, is_request, requests}
+
+pub latest-push : (start : ℕ) (entries : List Entry) (entry : Entry) → latest start (entries ++ entry ∷ []) ≡ moment entry.call
+unfolding latest
+latest-push start [] entry = refl
+latest-push start (first ∷ entries) entry = latest-push (moment first.call) entries entry
+
+suffix_len-push : {X : Type 0} (p : X → Bool) (xs : List X) (x : X) → suffix_len p (xs ++ x ∷ []) ≡ cond (p x) (1 + suffix_len p xs) 0
+suffix_len-push p xs x = ap (prefix_len p) (reverse-append xs (x ∷ []))
+
+-- behind an element that passes nothing stands
+pub after_last-push_passes : {X : Type 0} (p : X → Bool) (xs : List X) (x : X) → p x ≡ true → after_last p (xs ++ x ∷ []) ≡ []
+after_last-push_passes p xs x passes =
+    let none : suffix_len (λ y. not (p y)) (xs ++ x ∷ []) ≡ 0 = suffix_len-push (λ y. not (p y)) xs x ∙ rw passes refl in
+    drop_all _ (xs ++ x ∷ []) (omega (arith, none))
+
+-- one that doesn't pass stands behind what stood there
+pub after_last-push_fails : {X : Type 0} (p : X → Bool) (xs : List X) (x : X) → p x ≡ false → after_last p (xs ++ x ∷ []) ≡ after_last p xs ++ x ∷ []
+after_last-push_fails p xs x fails =
+    let tail = suffix_len (λ y. not (p y)) xs in
+    let more : suffix_len (λ y. not (p y)) (xs ++ x ∷ []) ≡ 1 + tail = suffix_len-push (λ y. not (p y)) xs x ∙ rw fails refl in
+    let len : length (xs ++ x ∷ []) ≡ length xs + 1 = length_push xs x in
+    let place : length (xs ++ x ∷ []) - suffix_len (λ y. not (p y)) (xs ++ x ∷ []) ≡ length xs - tail = omega (arith, more, len, suffix_len-le-length (λ y. not (p y)) xs) in
+    ap (λ (n : ℕ). drop n (xs ++ x ∷ [])) place ∙ drop-append-le (length xs - tail) xs (x ∷ []) (omega arith)
+
+count_by-push : {X : Type 0} (p : X → Bool) (xs : List X) (x : X) → count_by p (xs ++ x ∷ []) ≡ count_by p xs + cond (p x) 1 0
+count_by-push p xs x = omega (arith, sum_by-append (λ y. cond (p y) 1 0) xs (x ∷ []))
+
+module _ (inverter : ℕ) (entries : List Entry) (entry : Entry) where
+  pub requests-push_link : is_link inverter entry ≡ true → requests inverter (entries ++ entry ∷ []) ≡ 0
+  unfolding requests
+  requests-push_link link = ap (count_by (is_request inverter)) (after_last-push_passes (is_link inverter) entries entry link)
+
+  pub requests-push : is_link inverter entry ≡ false → requests inverter (entries ++ entry ∷ []) ≡ requests inverter entries + cond (is_request inverter entry) 1 0
+  unfolding requests
+  requests-push other = ap (count_by (is_request inverter)) (after_last-push_fails (is_link inverter) entries entry other) ∙ count_by-push (is_request inverter) (after_last (is_link inverter) entries) entry
+
+-- the same for the entry at a place of a list
+module _ (inverter : ℕ) (entries : List Entry) (place : ℕ) (default : Entry) (within : place < length entries) where
+  pub requests-more_link : is_link inverter (get_or entries place default) ≡ true → requests inverter (take (place + 1) entries) ≡ 0
+  requests-more_link link = rw (take_more entries place default within) (requests-push_link inverter (take place entries) (get_or entries place default) link)
+
+  pub requests-more : (request : Bool) → is_link inverter (get_or entries place default) ≡ false → is_request inverter (get_or entries place default) ≡ request
+      → requests inverter (take (place + 1) entries) ≡ requests inverter (take place entries) + cond request 1 0
+  requests-more request other is = rw (take_more entries place default within, ← is) (requests-push inverter (take place entries) (get_or entries place default) other)
+
+pub latest-more : (start : ℕ) (entries : List Entry) (place : ℕ) (default : Entry) → place < length entries → latest start (take (place + 1) entries) ≡ moment (get_or entries place default).call
+latest-more start entries place default within = rw (take_more entries place default within) (latest-push start (take place entries) (get_or entries place default))

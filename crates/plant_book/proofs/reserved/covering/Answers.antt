@@ -1,0 +1,8 @@
+use Rattle.std.proofs.lemmas.List.{take_all}
+use Rattle.plant_book.proofs.Built.{live-built}
+use Rattle.plant_book.proofs.reserved.covering.Goals as goal
+
+pub returns-clause-watts : goal.returns-clause-watts
+returns-clause-watts c =
+    let all = take_all c.loop-entry.entry-index c.args.entries.now c.loop-entry-test.false in
+    rw (live-built c.args.rules.now c.args.entries.now c.args.now c.args.inverter c.requires, ← all) c.loop-entry.invariant.watts

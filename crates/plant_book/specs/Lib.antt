@@ -1,0 +1,10 @@
+pub mod Sums
+pub mod Site
+pub mod Book
+pub mod Calls
+pub mod Requests
+pub mod Writes
+pub mod Reserved
+pub mod Policy
+pub mod Answer
+pub mod Answered

@@ -1,0 +1,73 @@
+-- What the policy allows an inverter.
+use Rattle.std.specs.Prelude.{ℕ, Bool, true, false, nat_le, ◌==◌, if◌then◌else◌, min, max, List, Option, Some, None}
+use Rattle.limiter_num.specs.Greatest.{greatest_up_to}
+use Rattle.plant_book.specs.declared.site.Policy.{Policy}
+use Rattle.plant_book.specs.declared.site.Policy.TheVariants as policies
+use Rattle.plant_book.specs.declared.call.Call.{Call}
+use Rattle.plant_book.specs.declared.call.Call.TheVariants as calls
+use Rattle.plant_book.specs.declared.call.Reply.{Reply}
+use Rattle.plant_book.specs.declared.call.Reply.TheVariants as replies
+use Rattle.plant_book.specs.declared.book.Entry.{Entry}
+use Rattle.plant_book.specs.Sums.{sum_below, last_that}
+use Rattle.plant_book.specs.Site.{SiteRecord, inverters, floor_at, rated_at}
+use Rattle.plant_book.specs.Book.{BookRecord}
+use Rattle.plant_book.specs.Requests.{is_seen}
+
+abbrev pub sees : ℕ → Call → Reply → Bool
+sees inverter (calls.Saw at other number raw) reply = if other == inverter then is_seen reply else false
+sees inverter _ reply = false
+
+-- whether an entry is a Saw of the inverter answered Freed or Strange
+abbrev pub is_sight : ℕ → Entry → Bool
+is_sight inverter entry = sees inverter entry.call entry.reply
+
+abbrev pub tells_strange : Reply → Bool
+tells_strange (replies.Strange raw) = true
+tells_strange _ = false
+
+abbrev pub strange_after : Option Entry → Bool
+strange_after None = false
+strange_after (Some entry) = tells_strange entry.reply
+
+-- an inverter is strange where the last such entry was answered Strange
+unfoldable pub is_strange : ℕ → List Entry → Bool
+is_strange inverter entries = strange_after (last_that (is_sight inverter) entries)
+
+abbrev pub wants_for : ℕ → Call → Bool
+wants_for inverter (calls.Want at other mw) = other == inverter
+wants_for inverter _ = false
+
+abbrev pub is_want : ℕ → Entry → Bool
+is_want inverter entry = wants_for inverter entry.call
+
+abbrev pub wanted : ℕ → Call → ℕ
+wanted otherwise (calls.Want at inverter mw) = mw
+wanted otherwise _ = otherwise
+
+abbrev pub wish_after : ℕ → Option Entry → ℕ
+wish_after otherwise None = otherwise
+wish_after otherwise (Some entry) = wanted otherwise entry.call
+
+-- the wish of an inverter: that of its last Want, or its rating
+unfoldable pub wish : BookRecord → ℕ → ℕ
+wish book inverter = wish_after (rated_at book.site inverter) (last_that (is_want inverter) book.entries)
+
+-- the rating that the policy goes by: the floor for a strange inverter
+unfoldable pub trusted : BookRecord → ℕ → ℕ
+trusted book inverter = if is_strange inverter book.entries then floor_at book.site inverter else rated_at book.site inverter
+
+-- the fair target of an inverter at a level
+unfoldable pub fair_target : BookRecord → ℕ → ℕ → ℕ
+fair_target book level inverter = max (floor_at book.site inverter) (min (wish book inverter) (min (trusted book inverter) level))
+
+-- the greatest level from 0 to the cap at which the fair targets of all sum to at most the cap
+unfoldable pub fair_level : BookRecord → ℕ
+fair_level book = greatest_up_to book.site.cap (λ level. nat_le (sum_below (inverters book.site) (fair_target book level)) book.site.cap)
+
+abbrev pub target_under : BookRecord → ℕ → Policy → ℕ
+target_under book inverter policies.Open = trusted book inverter
+target_under book inverter policies.Fair = fair_target book (fair_level book) inverter
+
+-- the greatest limit in milliwatts that the policy allows the inverter
+unfoldable pub target : BookRecord → ℕ → ℕ
+target book inverter = target_under book inverter book.site.policy

@@ -1,0 +1,159 @@
+ghost use Rattle.std.specs.Prelude.{◌≡◌, ◌<◌, ◌≤◌, ◌*◌, ◌^◌, Some, IfOk, List, [], ◌∷◌, ◌++◌, length, slice_get};
+ghost use Rattle.plant_book.specs.Site.{inverters, mw_at, full_at, rated_at, raw_at};
+ghost use Rattle.plant_book.specs.Calls.{latest};
+ghost use Rattle.plant_book.specs.Reserved.{now_of};
+
+use crate::call::{Call, Reply};
+use crate::site::{Site, Unit};
+use limiter_num::{NoMemory, Rules};
+use std::alloc::Global;
+use std::marker::Model;
+
+/// A call as it was entered, with its reply.
+#[derive(Clone, Copy, Debug, PartialEq, Eq)]
+pub struct Entry {
+    pub call: Call,
+    pub reply: Reply,
+}
+
+/// How many bytes an entry takes at most.
+pub const ENTRY_BYTES_MAX: usize = 80;
+
+const _: () = prove!(size_of::<Entry>() <= ENTRY_BYTES_MAX);
+
+/// A site, the moment in ms at which its book begins, and the calls with their replies in order. A book has
+/// memory for its whole room from the start on, so that one more entry takes none.
+#[derive(Debug, Drop)]
+pub struct Book {
+    pub site: Site,
+    pub start: u64,
+    pub entries: Vec<Entry>,
+}
+
+impl Model for Book {
+    ghost use Rattle.std.specs.Prelude.{◌≤◌, vec_capacity};
+    ghost use Rattle.plant_book.specs.Book.{BookRecord};
+
+    ghost Value = { BookRecord };
+
+    ghost view = { λ b. record { site = b.site; start = b.start; entries = b.entries.items } };
+
+    ghost invariant = { λ b. b.site.room ≤ vec_capacity b.entries };
+}
+
+impl Book {
+    /// A book with no entry, and the memory for its whole room.
+    pub fn new(alloc: Global, site: Site, start: u64) -> Result<Book, NoMemory>
+        ensures { IfOk result (λ book. book ≡ record { site = site; start = start; entries = [] }) }
+    {
+        match Vec::with_capacity(alloc, site.room as usize) {
+            Ok(entries) => Ok(Book {
+                site,
+                start,
+                entries,
+            }),
+            Err(_) => Err(NoMemory),
+        }
+    }
+
+    /// The moment of the last entry, or the start where there is none, in ms.
+    #[tactic(auto, unfolding(crate::specs::Reserved::now_of))]
+    pub fn latest(&self) -> u64
+        ensures { result ≡ now_of self.now }
+    {
+        latest(self.start, &self.entries)
+    }
+
+    /// Writes one more entry at the end.
+    pub fn push(&mut self, entry: Entry)
+        requires { length self.old.entries < self.old.site.room }
+        ensures { self.new ≡ record self.old { entries = self.old.entries ++ entry ∷ [] } }
+    {
+        self.entries.push_reserved(entry);
+    }
+
+    /// The entries in order.
+    pub(crate) fn entries(&self) -> &[Entry]
+        ensures { result.now ≡ self.now.entries }
+    {
+        &self.entries
+    }
+
+    /// How many inverters the site has.
+    pub(crate) fn inverters(&self) -> usize
+        ensures { result ≡ inverters self.now.site }
+    {
+        let site = &self.site;
+        site.units.len()
+    }
+
+    /// The inverter of this number.
+    pub(crate) fn unit(&self, inverter: u8) -> &Unit
+        requires { inverter < inverters self.now.site }
+        ensures { slice_get self.now.site.units inverter ≡ Some result.now }
+    {
+        let site = &self.site;
+        &site.units[usize::from(inverter)]
+    }
+
+    /// The rules of the site.
+    pub(crate) fn rules(&self) -> Rules
+        ensures { result ≡ self.now.site.rules }
+    {
+        let site = &self.site;
+        site.rules
+    }
+
+    /// The cap of the site, in mW.
+    pub(crate) fn cap(&self) -> u64
+        ensures { result ≡ self.now.site.cap }
+    {
+        let site = &self.site;
+        site.cap
+    }
+
+    /// The milliwatts of a raw percentage at the inverter.
+    pub(crate) fn mw(&self, inverter: u8, raw: u16) -> u64
+        requires { inverter < inverters self.now.site }
+        ensures watts { result ≡ mw_at self.now.site inverter raw }
+        ensures below { result ≤ 65535 * 10 ^ 12 }
+    {
+        self.unit(inverter).rating.mw(raw)
+    }
+
+    /// The inverter's greatest raw percentage.
+    pub(crate) fn full(&self, inverter: u8) -> u16
+        requires { inverter < inverters self.now.site }
+        ensures { result ≡ full_at self.now.site inverter }
+    {
+        self.unit(inverter).rating.full()
+    }
+
+    /// The milliwatts of the inverter's greatest raw percentage.
+    pub(crate) fn rated(&self, inverter: u8) -> u64
+        requires { inverter < inverters self.now.site }
+        ensures { result ≡ rated_at self.now.site inverter }
+    {
+        let rating = &self.unit(inverter).rating;
+        rating.mw(rating.full())
+    }
+
+    /// The inverter's greatest raw percentage of at most so many milliwatts.
+    pub(crate) fn raw_at_most(&self, inverter: u8, mw: u64) -> u16
+        requires { inverter < inverters self.now.site }
+        ensures { result ≡ raw_at self.now.site inverter mw }
+    {
+        self.unit(inverter).rating.raw_at_most(mw)
+    }
+}
+
+/// The moment of the last of the entries, or the start where there is none, in ms.
+fn latest(start: u64, entries: &[Entry]) -> u64
+    ensures { result ≡ latest start entries.now }
+{
+    let mut now = start;
+    for entry in entries {
+        now = entry.call.at();
+    }
+    now
+}

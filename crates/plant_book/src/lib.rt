@@ -1,0 +1,18 @@
+//! The rules of the ledger, which a reader has to believe, and a plain slow program that follows them.
+//!
+//! A book is a site, a start and a list of calls with their replies. `specs/` says what each reply has to be,
+//! from the whole list; `answer` and `reserved_plain` compute it so.
+#![tactic(auto)]
+
+mod book;
+mod call;
+mod counts;
+mod entries;
+mod replies;
+mod reserved;
+mod site;
+
+pub use book::{Book, ENTRY_BYTES_MAX, Entry};
+pub use call::{Call, LIVE_MAX, MOMENT_MAX, REQUESTS_MAX, Read, Reply, WISH_MAX, Write};
+pub use replies::{answer, reserved_plain};
+pub use site::{CAP_MAX, FloorOut, INVERTERS_MAX, Policy, ROOM_MAX, Site, Unit};

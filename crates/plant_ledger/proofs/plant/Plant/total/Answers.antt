@@ -1,0 +1,24 @@
+use Rattle.std.proofs.Common.{◌≡◌, ◌*◌, ◌+◌, refl, ap, ◌∙◌, ℕ, add-one, arith}
+use Rattle.plant_book.specs.Sums.{sum_below}
+use Rattle.plant_book.specs.Reserved as sums
+use Rattle.plant_book.specs.Site.{inverters}
+use Rattle.plant_book.specs.Book.{BookRecord}
+use Rattle.plant_ledger.proofs.plant.Plant.total.Goals as goal
+
+pub loop-inverter-init : goal.loop-inverter-init
+unfolding sum_below
+loop-inverter-init c = record { summed = refl; below = omega arith }
+
+pub loop-inverter-preserved : goal.loop-inverter-preserved
+unfolding sum_below
+loop-inverter-preserved c =
+    record { summed = rw add-one (omega (arith, c.loop-inverter.invariant.summed, c.reserved_plain-total.ensures.watts)); below = omega (arith, c.loop-inverter.invariant.below, c.reserved_plain-total.ensures.below) }
+
+pub returns : goal.returns
+unfolding sums.total_at
+returns c =
+    let book = c.self.inside.book in
+    let all : c.loop-inverter.inverter ≡ inverters book.site =
+    omega (arith, c.loop-inverter-test.false, c.loop-inverter.auto.inverter-end, c.inverters-inverter-end.ensures, ap (λ (b : BookRecord). inverters b.site) c.self.view_is) in
+    c.loop-inverter.invariant.summed ∙ ap (λ (n : ℕ). sum_below n (sums.reserved book)) all
+    ∙ ap (λ (b : BookRecord). sum_below (inverters b.site) (sums.reserved b)) c.self.view_is

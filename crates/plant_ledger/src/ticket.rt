@@ -1,0 +1,40 @@
+ghost use Rattle.std.specs.Prelude.{◌≡◌};
+
+use plant_book::Write;
+use std::marker::Model;
+
+/// The right to send one granted write, once. Only a grant makes one, and there is no copy of it.
+#[derive(Debug, Drop)]
+pub struct Ticket {
+    write: Write,
+}
+
+impl Model for Ticket {
+    ghost use Rattle.plant_book.specs.declared.call.Write.{Write};
+
+    ghost Value = { Write };
+
+    ghost view = { λ t. t.write };
+}
+
+impl Ticket {
+    pub(crate) fn new(write: Write) -> Ticket
+        ensures { result ≡ write }
+    {
+        Ticket { write }
+    }
+
+    /// The write that it is for.
+    pub fn write(&self) -> Write
+        ensures { result ≡ self.now }
+    {
+        self.write
+    }
+
+    /// Uses the ticket up.
+    pub fn spend(self) -> Write
+        ensures { result ≡ self }
+    {
+        self.write
+    }
+}
