@@ -1,6 +1,6 @@
 -- In a book of the calls that are built so far no write is given back or freed.
-use Rattle.std.proofs.Common.{◌≡◌, ℕ, Bool, true, false, cond, not, List, [], ◌∷◌, ◌++◌, refl, sym, ap, ◌∙◌, append_assoc}
-use Rattle.std.specs.Prelude.{filter, find, reverse, Option, None}
+use Rattle.std.proofs.Common.{◌≡◌, ℕ, Bool, true, false, cond, not, List, [], ◌∷◌, ◌++◌, refl, sym, ap, ◌∙◌}
+use Rattle.std.specs.Prelude.{filter, find, reverse, None}
 use Rattle.std.proofs.lemmas.List.{reverse-append}
 use Rattle.std.proofs.lemmas.List.Folds.{find-append}
 use Rattle.std.specs.List.{AllByRecursion, flat_map}
@@ -13,15 +13,13 @@ use Rattle.plant_book.specs.declared.call.Write as writes
 use Rattle.plant_book.specs.declared.book.Entry.{Entry}
 use Rattle.plant_book.specs.Writes.{grant_of, ends_by, ends_later, standing, is_current, live}
 use Rattle.plant_book.specs.Answered.{IsBuilt, IsBuiltBook}
-use Rattle.plant_book.specs.declared.site.Policy.{Policy}
-use Rattle.plant_book.specs.declared.site.Policy.TheVariants as policies
 use Rattle.plant_book.specs.Sums.{last_that}
 use Rattle.plant_book.specs.Site.{rated_at, floor_at}
 use Rattle.plant_book.specs.Book.{BookRecord}
 use Rattle.plant_book.specs.Policy.{is_sight, sees, is_strange, strange_after, trusted, target, target_under}
 
 -- a filter that every element passes leaves the list
-filter_all_pass : {X : Type 0} (p : X → Bool) → ((x : X) → p x ≡ true) → (xs : List X) → filter p xs ≡ xs
+pub filter_all_pass : {X : Type 0} (p : X → Bool) → ((x : X) → p x ≡ true) → (xs : List X) → filter p xs ≡ xs
 filter_all_pass p passes [] = refl
 filter_all_pass p passes (x ∷ xs) = rw (passes x) (ap (λ (ys : List _). x ∷ ys) (filter_all_pass p passes xs))
 

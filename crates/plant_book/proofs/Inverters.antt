@@ -1,5 +1,5 @@
 -- The numbers of an inverter of a site are those of its unit.
-use Rattle.std.proofs.Common.{◌≡◌, ℕ, ◌<◌, List, length, get_or, max, map, Option, Some, refl, sym, ap, ◌∙◌}
+use Rattle.std.proofs.Common.{◌≡◌, ℕ, List, max, map, Option, Some, refl, ap}
 use Rattle.std.specs.Prelude.{slice_get, fold}
 use Rattle.std.specs.Option.{option_map_or}
 use Rattle.limiter_num.specs.Rating.{mw, full, rated, raw_at_most}

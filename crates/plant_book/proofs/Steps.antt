@@ -1,8 +1,8 @@
 -- What one more entry at the end of a book changes.
-use Rattle.std.proofs.Common.{◌≡◌, ℕ, suc, ◌+◌, ◌-◌, ◌<◌, ◌≤◌, Bool, true, false, cond, not, List, [], ◌∷◌, ◌++◌, length, take, drop, get_or, refl, sym, ap, ◌∙◌, append_assoc, arith}
-use Rattle.std.specs.Prelude.{reverse, count_by}
+use Rattle.std.proofs.Common.{◌≡◌, ℕ, ◌+◌, ◌-◌, ◌<◌, Bool, true, false, cond, not, List, [], ◌∷◌, ◌++◌, length, take, drop, get_or, refl, ap, ◌∙◌, arith}
+use Rattle.std.specs.Prelude.{count_by}
 use Rattle.std.specs.List.{after_last, prefix_len, suffix_len}
-use Rattle.std.proofs.lemmas.List.{length-append, length_push, take_more, drop-append-le, drop_all, reverse-append}
+use Rattle.std.proofs.lemmas.List.{length_push, take_more, drop-append-le, drop_all, reverse-append}
 use Rattle.std.proofs.lemmas.List.Sums.{suffix_len-le-length, sum_by-append}
 use Rattle.plant_book.specs.declared.book.Entry.{Entry}
 use Rattle.plant_book.specs.Calls.{moment, latest}

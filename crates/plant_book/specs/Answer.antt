@@ -1,5 +1,5 @@
 -- The reply to a call, from the whole book before it.
-use Rattle.std.specs.Prelude.{ℕ, ◌+◌, ◌-◌, Bool, true, false, not, ◌&&◌, ◌||◌, nat_le, nat_lt, ◌==◌, if◌then◌else◌, min, max, List, length, filter, Option, Some, None}
+use Rattle.std.specs.Prelude.{ℕ, ◌+◌, ◌-◌, Bool, true, false, not, ◌||◌, nat_le, nat_lt, ◌==◌, if◌then◌else◌, min, max, List, length, filter, Option, Some, None}
 use Rattle.std.specs.List.{list_any}
 use Rattle.limiter_num.specs.Timers.{reach}
 use Rattle.plant_book.specs.declared.call.Call.{Call}
@@ -9,7 +9,7 @@ use Rattle.plant_book.specs.declared.call.Reply.TheVariants as replies
 use Rattle.plant_book.specs.declared.call.Write as writes
 use Rattle.plant_book.specs.declared.call.Read as reads
 use Rattle.plant_book.specs.declared.call.TheConstants.{REQUESTS_MAX, LIVE_MAX}
-use Rattle.plant_book.specs.Site.{SiteRecord, mw_at, floor_at, floor_raw_at, full_at, raw_at}
+use Rattle.plant_book.specs.Site.{mw_at, floor_raw_at, full_at, raw_at}
 use Rattle.plant_book.specs.Book.{BookRecord}
 use Rattle.plant_book.specs.Requests.{link_number, requests, pending_read}
 use Rattle.plant_book.specs.Writes.{live, frees, is_numbered}

@@ -1,5 +1,5 @@
 -- The parts of calls and entries, and the last moment of a book.
-use Rattle.std.specs.Prelude.{ℕ, Bool, true, List, [], ◌∷◌, max, ◌==◌, Option, Some, None}
+use Rattle.std.specs.Prelude.{ℕ, List, [], ◌∷◌, max, Option, Some, None}
 use Rattle.plant_book.specs.declared.call.Call.{Call}
 use Rattle.plant_book.specs.declared.call.Call.TheVariants as calls
 use Rattle.plant_book.specs.declared.book.Entry.{Entry}

@@ -9,7 +9,7 @@ use Rattle.plant_book.specs.declared.call.Reply.{Reply}
 use Rattle.plant_book.specs.declared.call.Reply.TheVariants as replies
 use Rattle.plant_book.specs.declared.book.Entry.{Entry}
 use Rattle.plant_book.specs.Sums.{sum_below, last_that}
-use Rattle.plant_book.specs.Site.{SiteRecord, inverters, floor_at, rated_at}
+use Rattle.plant_book.specs.Site.{inverters, floor_at, rated_at}
 use Rattle.plant_book.specs.Book.{BookRecord}
 use Rattle.plant_book.specs.Requests.{is_seen}
 

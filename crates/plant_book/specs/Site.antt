@@ -1,5 +1,5 @@
 -- What contracts see of a site, what is true of every site, and the numbers of its inverters.
-use Rattle.std.specs.Prelude.{◌≡◌, ℕ, ◌^◌, ◌<◌, ◌≤◌, List, length, slice_get}
+use Rattle.std.specs.Prelude.{ℕ, ◌^◌, ◌<◌, ◌≤◌, List, length, slice_get}
 use Rattle.std.specs.Option.{option_map_or}
 use Rattle.limiter_num.specs.declared.rules.Rules.{Rules}
 use Rattle.limiter_num.specs.Rating.{mw, full, rated, raw_at_most}

@@ -66,6 +66,7 @@ impl Plant {
         requires policy { site.policy ≡ Policy.Open }
         ensures opened { IfOk result (λ plant. plant ≡ record { site = site; start = start; entries = [] }) }
         ensures openable { OnOk result (open_fault site ≡ None) }
+        ensures kept { IfOk result (λ plant. IsBook plant) }
         ensures refused { IfErr result (λ fault. (fault ≡ OpenFault.NoMemory) ⊎ (open_fault site ≡ Some fault)) }
     {
         refuse(&site)?;
@@ -92,6 +93,10 @@ impl Plant {
         // Full exactly where the book has as many calls as its room.
         ensures room { IsOk result ↔ (length self.old.entries < self.old.site.room) }
         ensures full { IfErr result (λ full. (full.calls ≡ length self.old.entries) × (full.calls ≡ self.old.site.room) × (self.new ≡ self.old)) }
+
+        // The book stays one of right replies, and all limits together stay under the cap.
+        ensures kept { IsBook self.new }
+        ensures capped { sums.total self.new ≤ self.new.site.cap }
     {
         let calls = self.calls();
         if calls >= self.site().room {

@@ -1,6 +1,4 @@
-use Rattle.std.proofs.Common.{rules}
 use Rattle.std.proofs.lemmas.List.{take_all}
-use Rattle.std.proofs.lemmas.Grind.{common_steps}
 use Rattle.plant_book.proofs.Built.{live-built}
 use Rattle.plant_book.proofs.counts.live_count.Goals as goal
 

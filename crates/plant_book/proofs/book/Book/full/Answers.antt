@@ -1,5 +1,4 @@
-use Rattle.std.proofs.Common.{sym, ap, ◌∙◌}
-use Rattle.limiter_num.specs.Rating.{mw}
+use Rattle.std.proofs.Common.{sym, ◌∙◌}
 use Rattle.plant_book.proofs.Inverters.{full_at-is}
 use Rattle.plant_book.proofs.book.Book.full.Goals as goal
 

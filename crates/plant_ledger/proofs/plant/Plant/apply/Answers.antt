@@ -11,6 +11,7 @@ use Rattle.plant_book.specs.Calls.{moment, at_moment, named, latest, entered}
 use Rattle.plant_book.specs.Reserved.{now_of}
 use Rattle.plant_book.specs.Answer.{reply_to}
 use Rattle.plant_book.specs.Answered.{IsNext, IsBook, IsBuilt, IsBuiltBook}
+use Rattle.plant_book.proofs.Cap.{total_at-capped}
 use Rattle.plant_ledger.proofs.Growth.{IsNext-entered, IsBuilt-at_moment, IsBook-push, IsBuiltBook-push, with_entry}
 use Rattle.plant_ledger.proofs.plant.Plant.apply.Goals as goal
 
@@ -57,3 +58,12 @@ returns-clause-reply c =
     let book = c.self.inside.book in
     let is = entered-is book c.args.call c.at_moment-call.result c.max.result c.at.result c.latest.result c.at.ensures c.latest.ensures c.max.ensures c.at_moment-call.ensures in
     c.answer-reply.ensures ∙ ap (reply_to book) is ∙ ap (λ (b : BookRecord). reply_to b (entered b.start b.entries c.args.call)) c.self.view_is
+
+pub returns-clause-kept : goal.returns-clause-kept
+returns-clause-kept c = (invariant_of-self c).kept
+
+pub returns-clause-capped : goal.returns-clause-capped
+returns-clause-capped c = total_at-capped c.push.new.self (invariant_of-self c).kept (now_of c.push.new.self) (omega arith)
+
+pub returns-then-calls-site-clause-capped : goal.returns-then-calls-site-clause-capped
+returns-then-calls-site-clause-capped c = total_at-capped c.args.self.now (subst IsBook c.self.view_is c.self.invariant.kept) (now_of c.args.self.now) (omega arith)

@@ -1,0 +1,157 @@
+-- What is reserved in all never passes the cap: from the last moment of a book on, and whatever calls it has.
+use Rattle.std.proofs.Common.{◌≡◌, ℕ, ◌+◌, ◌≤◌, max, true, not, ◌⊎◌, eqb, leb, List, [], ◌∷◌, ◌++◌, map, refl, sym, ap, subst, ◌∙◌, append_assoc, arith, inl, inr}
+use Rattle.std.specs.Prelude.{filter, fold}
+use Rattle.std.proofs.lemmas.Bool.{cases_Bool, and_parts, and_from, leb-true, le-leb, ne_eqb, and_left}
+use Rattle.std.proofs.lemmas.List.{append-nil}
+use Rattle.std.proofs.lemmas.List.Elements.{filter-append}
+use Rattle.limiter_num.specs.declared.rules.Rules.{Rules}
+use Rattle.limiter_num.specs.Timers.{reach}
+use Rattle.plant_book.specs.declared.call.Reply.{Reply}
+use Rattle.plant_book.specs.declared.call.Reply.TheVariants as replies
+use Rattle.plant_book.specs.declared.call.Write as writes
+use Rattle.plant_book.specs.declared.book.Entry.{Entry}
+use Rattle.plant_book.specs.Site.{inverters, mw_at, floor_at}
+use Rattle.plant_book.specs.Book.{BookRecord}
+use Rattle.plant_book.specs.Calls.{moment, latest}
+use Rattle.plant_book.specs.Writes.{grant_of, granted, ends, standing, is_current, live}
+use Rattle.plant_book.specs.Reserved.{covering, reserved_at, total_at, unreserved_at, now_of}
+use Rattle.plant_book.specs.Answer.{raise_at}
+use Rattle.plant_book.specs.Answered.{EachInTurn, IsAnswer, IsNext, IsOpenable, IsBook, with_entries}
+use Rattle.plant_book.proofs.Steps.{latest-push}
+use Rattle.plant_book.proofs.Maxima.{fold_max_filter, fold_max_filtered, fold_max-push, sum_below_le, sum_below_raise}
+use Rattle.plant_book.proofs.Standing.{standing-push}
+use Rattle.plant_book.proofs.Granting.{granted_is_covered}
+
+-- a write that is not past its last moment was not past it before
+current_before : (rules : Rules) (old new inverter : ℕ) (write : writes.Write) → old ≤ new → is_current rules new inverter write ≡ true → is_current rules old inverter write ≡ true
+current_before rules old new inverter write le is =
+    let both = and_parts (eqb write.inverter inverter) (leb new (write.at + reach rules)) is in
+    and_from (eqb write.inverter inverter) (leb old (write.at + reach rules)) both.0 (le-leb old (write.at + reach rules) (omega (arith, leb-true new (write.at + reach rules) both.1)))
+
+module _ (book : BookRecord) (before : List Entry) (entry : Entry) (old new : ℕ) (le : old ≤ new) where
+  -- the writes that stand and are current at the new moment: those of before that aren't ended, and the grant
+  live-push : (inverter : ℕ) → live book.site.rules (before ++ entry ∷ []) new inverter
+      ≡ filter (is_current book.site.rules new inverter) (filter (λ write. not (ends book.site.rules before entry write)) (standing book.site.rules [] before)) ++ filter (is_current book.site.rules new inverter) (grant_of entry)
+  unfolding live
+  live-push inverter =
+      ap (filter (is_current book.site.rules new inverter)) (standing-push book.site.rules [] before entry)
+      ∙ filter-append (is_current book.site.rules new inverter) (filter (λ write. not (ends book.site.rules before entry write)) (standing book.site.rules [] before)) (grant_of entry)
+
+  reserved-by : (inverter : ℕ) (its : List writes.Write) → live book.site.rules (before ++ entry ∷ []) new inverter ≡ its
+      → reserved_at (with_entries book (before ++ entry ∷ [])) new inverter ≡ fold max (floor_at book.site inverter) (map (λ (write : writes.Write). mw_at book.site inverter write.raw) its)
+  unfolding reserved_at covering
+  reserved-by inverter its is = ap (λ (ws : List writes.Write). fold max (floor_at book.site inverter) (map (λ (write : writes.Write). mw_at book.site inverter write.raw) ws)) is
+
+  -- what is left of the writes of before reserves no more than they did
+  left_no_more : (inverter : ℕ) → fold max (floor_at book.site inverter) (map (λ (write : writes.Write). mw_at book.site inverter write.raw)
+      (filter (is_current book.site.rules new inverter) (filter (λ write. not (ends book.site.rules before entry write)) (standing book.site.rules [] before)))) ≤ reserved_at (with_entries book before) old inverter
+  unfolding reserved_at covering live
+  left_no_more inverter =
+      let watts : writes.Write → ℕ = λ write. mw_at book.site inverter write.raw in
+      let floor = floor_at book.site inverter in
+      let all = standing book.site.rules [] before in
+      omega (
+        arith,
+        fold_max_filtered watts (λ write. not (ends book.site.rules before entry write)) (is_current book.site.rules new inverter) floor floor all (omega arith),
+        fold_max_filter watts (is_current book.site.rules new inverter) (is_current book.site.rules old inverter) (λ write is. current_before book.site.rules old new inverter write le is) floor floor all (omega arith),
+      )
+
+  -- an inverter to which the entry grants nothing has no more reserved than before
+  reserved_no_more : (inverter : ℕ) → filter (is_current book.site.rules new inverter) (grant_of entry) ≡ [] → reserved_at (with_entries book (before ++ entry ∷ [])) new inverter ≤ reserved_at (with_entries book before) old inverter
+  reserved_no_more inverter none =
+      let left = filter (is_current book.site.rules new inverter) (filter (λ write. not (ends book.site.rules before entry write)) (standing book.site.rules [] before)) in
+      let is : live book.site.rules (before ++ entry ∷ []) new inverter ≡ left = live-push inverter ∙ ap (λ (ws : List writes.Write). left ++ ws) none ∙ append-nil left in
+      subst (λ (n : ℕ). n ≤ reserved_at (with_entries book before) old inverter) (sym (reserved-by inverter left is)) (left_no_more inverter)
+
+  -- the inverter of the grant has at most the limit reserved besides
+  reserved_raised : (write : writes.Write) (inverter : ℕ) → entry.reply ≡ replies.Granted write
+      → reserved_at (with_entries book (before ++ entry ∷ [])) new inverter ≤ max (reserved_at (with_entries book before) old inverter) (mw_at book.site inverter write.raw)
+  reserved_raised write inverter grants =
+      let left = filter (is_current book.site.rules new inverter) (filter (λ w. not (ends book.site.rules before entry w)) (standing book.site.rules [] before)) in
+      let grant : grant_of entry ≡ write ∷ [] = ap granted grants in
+      elim (cases_Bool (is_current book.site.rules new inverter write)) [
+        | inl current ↦
+            let one : filter (is_current book.site.rules new inverter) (grant_of entry) ≡ write ∷ [] = rw (grant, current) refl in
+            let is : live book.site.rules (before ++ entry ∷ []) new inverter ≡ left ++ write ∷ [] = live-push inverter ∙ ap (λ (ws : List writes.Write). left ++ ws) one in
+            omega (arith, reserved-by inverter (left ++ write ∷ []) is, fold_max-push (λ (w : writes.Write). mw_at book.site inverter w.raw) (floor_at book.site inverter) left write, left_no_more inverter)
+        | inr past ↦
+            let none : filter (is_current book.site.rules new inverter) (grant_of entry) ≡ [] = rw (grant, past) refl in
+            omega (arith, reserved_no_more inverter none)
+      ]
+
+-- a reply grants a write, or it grants none
+grant_cases : (reply : Reply) → ((write : writes.Write) × (reply ≡ replies.Granted write)) ⊎ (granted reply ≡ [])
+grant_cases (replies.Linked number) = inr refl
+grant_cases (replies.Granted write) = inl (write, refl)
+grant_cases (replies.ReadAs read) = inr refl
+grant_cases (replies.Freed count reserved) = inr refl
+grant_cases replies.Taken = inr refl
+grant_cases (replies.Total watts) = inr refl
+grant_cases replies.Unlinked = inr refl
+grant_cases replies.Spent = inr refl
+grant_cases (replies.Over full) = inr refl
+grant_cases (replies.Silent until) = inr refl
+grant_cases (replies.NotAllowed raw) = inr refl
+grant_cases (replies.NoWatts watts) = inr refl
+grant_cases replies.Crowded = inr refl
+grant_cases replies.NoRead = inr refl
+grant_cases (replies.Strange raw) = inr refl
+grant_cases replies.NoWrite = inr refl
+
+-- what is reserved in all is at most the cap from the last moment of these entries on
+abbrev pub IsCapped : BookRecord → List Entry → Type 0
+IsCapped book entries = (now : ℕ) → latest book.start entries ≤ now → total_at (with_entries book entries) now ≤ book.site.cap
+
+module _ (book : BookRecord) (before : List Entry) (entry : Entry) (capped : IsCapped book before) (right : IsAnswer book before entry) (later : latest book.start before ≤ moment entry.call) where
+  capped_by_none : (now : ℕ) → moment entry.call ≤ now → granted entry.reply ≡ [] → total_at (with_entries book (before ++ entry ∷ [])) now ≤ book.site.cap
+  unfolding total_at
+  capped_by_none now le none =
+      omega (
+        arith,
+        capped (moment entry.call) later,
+        sum_below_le (inverters book.site) (reserved_at (with_entries book (before ++ entry ∷ [])) now) (reserved_at (with_entries book before) (moment entry.call))
+            (λ inverter lt. reserved_no_more book before entry (moment entry.call) now le inverter (ap (filter (is_current book.site.rules now inverter)) none)),
+      )
+
+  capped_by_grant : (now : ℕ) → moment entry.call ≤ now → (write : writes.Write) → entry.reply ≡ replies.Granted write → total_at (with_entries book (before ++ entry ∷ [])) now ≤ book.site.cap
+  unfolding total_at unreserved_at
+  capped_by_grant now le write grants =
+      let at = moment entry.call in
+      let old = with_entries book before in
+      let covered = granted_is_covered old entry.call write (sym right ∙ grants) in
+      let before_all = capped at later in
+      omega (
+        arith,
+        before_all,
+        covered.fits,
+        sum_below_raise (inverters book.site) write.inverter (raise_at old at write.inverter write.raw)
+            (reserved_at (with_entries book (before ++ entry ∷ [])) now) (reserved_at old at)
+            (λ inverter other. reserved_no_more book before entry at now le inverter
+            (rw (ap granted grants, and_left (eqb write.inverter inverter) (leb now (write.at + reach book.site.rules)) (ne_eqb write.inverter inverter (λ same. other (sym same)))) refl))
+            (omega (arith, reserved_raised book before entry at now le write write.inverter grants)),
+      )
+
+  -- one more right entry keeps it
+  capped-push : IsCapped book (before ++ entry ∷ [])
+  capped-push now le =
+      let from : moment entry.call ≤ now = subst (λ (m : ℕ). m ≤ now) (latest-push book.start before entry) le in
+      elim (grant_cases entry.reply) [
+        | inl grant ↦ capped_by_grant now from grant.0 grant.1
+        | inr none ↦ capped_by_none now from none
+      ]
+
+capped_along : (book : BookRecord) (before later : List Entry) → IsCapped book before → EachInTurn (IsAnswer book) before later → EachInTurn (λ es entry. IsNext book.site book.start es entry.call) before later → IsCapped book (before ++ later)
+capped_along book before [] capped right next = subst (IsCapped book) (sym (append-nil before)) capped
+capped_along book before (entry ∷ later) capped right next =
+    subst (IsCapped book) (append_assoc before (entry ∷ []) later)
+    (capped_along book (before ++ entry ∷ []) later (capped-push book before entry capped right.0 next.0.later) right.1 next.1)
+
+-- an empty book reserves the floors
+capped_empty : (book : BookRecord) → IsOpenable book.site → IsCapped book []
+unfolding total_at reserved_at covering live standing
+capped_empty book openable now le = openable.floors
+
+-- what is reserved in all never passes the cap
+pub total_at-capped : (book : BookRecord) → IsBook book → (now : ℕ) → now_of book ≤ now → total_at book now ≤ book.site.cap
+unfolding now_of
+total_at-capped book kept now le = capped_along book [] book.entries (capped_empty book kept.openable) kept.answered kept.entered now le
