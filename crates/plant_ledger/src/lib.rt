@@ -9,3 +9,6 @@ mod ticket;
 
 pub use plant::{BookFull, OpenFault, Outcome, Plant};
 pub use ticket::Ticket;
+
+#[cfg(test)]
+mod tests;
