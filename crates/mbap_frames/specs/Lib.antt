@@ -1,0 +1,4 @@
+pub mod Frame
+pub mod Stream
+pub mod Feed
+pub mod Gathering
