@@ -18,6 +18,15 @@ tmin rules = rules.timer * 1000 * (1000 - rules.per_mille) / 1000 - rules.slack
 unfoldable pub reach : Rules → ℕ
 reach rules = rules.send + rules.delay + tmax rules
 
+-- the last moment at which a write that was granted at this moment may act: sent at the end of its window, and
+-- as late as a frame may be
+abbrev pub last_act : Rules → ℕ → ℕ
+last_act rules at = at + rules.send + rules.delay
+
+-- the last moment at which it may be held: the longest timer after that
+abbrev pub last_moment : Rules → ℕ → ℕ
+last_moment rules at = at + reach rules
+
 abbrev out : RulesField → ℕ → Option RulesOut
 out field value = Some (record { field = field; value = value })
 

@@ -8,7 +8,7 @@ mod rating;
 mod rules;
 
 pub use rating::{Point, Rating, RatingFault};
-pub use rules::{Rules, RulesField, RulesOut};
+pub use rules::{MOMENT_MAX, Rules, RulesField, RulesOut};
 
 /// Memory ran out; nothing was changed.
 #[derive(Clone, Copy, Debug, PartialEq, Eq)]

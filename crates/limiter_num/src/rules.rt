@@ -1,5 +1,8 @@
 ghost use Rattle.std.specs.Prelude.{◌≡◌, ◌<◌, ◌≤◌, MatchResult, IfOk, None, Some};
 
+/// The greatest moment, in ms.
+pub const MOMENT_MAX: u64 = 1_000_000_000_000_000;
+
 /// A number of `Rules`.
 #[derive(Clone, Copy, Debug, PartialEq, Eq)]
 pub enum RulesField {

@@ -5,3 +5,8 @@ pub mod Maxima
 pub mod Standing
 pub mod Granting
 pub mod Cap
+pub mod Last
+pub mod Device
+pub mod Prefix
+pub mod Safe
+pub mod Devices

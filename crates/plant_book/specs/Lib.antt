@@ -8,3 +8,7 @@ pub mod Reserved
 pub mod Policy
 pub mod Answer
 pub mod Answered
+pub mod History
+pub mod Behaviour
+pub mod Held
+pub mod Safe

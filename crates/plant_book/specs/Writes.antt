@@ -1,7 +1,7 @@
 -- Which writes are live: granted, neither given back nor freed, and not past their last moment.
-use Rattle.std.specs.Prelude.{ℕ, ◌+◌, Bool, true, false, not, ◌&&◌, ◌||◌, nat_le, nat_lt, ◌==◌, List, [], ◌∷◌, ◌++◌, filter, Option, Some, None}
+use Rattle.std.specs.Prelude.{ℕ, Bool, true, false, not, ◌&&◌, ◌||◌, nat_le, nat_lt, ◌==◌, List, [], ◌∷◌, ◌++◌, filter, Option, Some, None}
 use Rattle.limiter_num.specs.declared.rules.Rules.{Rules}
-use Rattle.limiter_num.specs.Timers.{reach}
+use Rattle.limiter_num.specs.Timers.{last_act, last_moment}
 use Rattle.plant_book.specs.declared.call.Call.{Call}
 use Rattle.plant_book.specs.declared.call.Call.TheVariants as calls
 use Rattle.plant_book.specs.declared.call.Reply.{Reply}
@@ -23,7 +23,7 @@ grant_of entry = granted entry.reply
 -- could act at the latest before the read.
 abbrev pub settles : Rules → reads.Read → writes.Write → Bool
 settles rules read write = (write.inverter == read.inverter)
-    && ((write.link == read.link) && nat_lt write.number read.number || nat_lt (write.at + rules.send + rules.delay) read.at)
+    && ((write.link == read.link) && nat_lt write.number read.number || nat_lt (last_act rules write.at) read.at)
 
 -- whether a pending read that showed a raw percentage frees a write: it settles the write, whose raw is another
 abbrev pub frees : Rules → Option reads.Read → ℕ → writes.Write → Bool
@@ -63,7 +63,7 @@ standing rules before (entry ∷ later) =
 
 -- whether a write is of the inverter and not past its last moment
 abbrev pub is_current : Rules → ℕ → ℕ → writes.Write → Bool
-is_current rules now inverter write = (write.inverter == inverter) && nat_le now (write.at + reach rules)
+is_current rules now inverter write = (write.inverter == inverter) && nat_le now (last_moment rules write.at)
 
 -- the writes of the inverter that are live at a moment, in the order of their grants
 unfoldable pub live : Rules → List Entry → ℕ → ℕ → List writes.Write

@@ -1,7 +1,7 @@
 ghost use Rattle.std.specs.Prelude.{◌≡◌};
 
 /// The greatest moment, in ms.
-pub const MOMENT_MAX: u64 = 1_000_000_000_000_000;
+pub const MOMENT_MAX: u64 = limiter_num::MOMENT_MAX;
 
 /// The greatest wish, in mW.
 pub const WISH_MAX: u64 = 100_000_000_000_000;

@@ -7,6 +7,7 @@ use Rattle.plant_book.proofs.Steps.{latest-push}
 use Rattle.plant_book.specs.declared.call.Call.{Call}
 use Rattle.plant_book.specs.declared.call.Call.TheVariants as calls
 use Rattle.plant_book.specs.declared.call.TheConstants.{MOMENT_MAX}
+use Rattle.plant_book.specs.declared.site.Policy.TheVariants as policies
 use Rattle.plant_book.specs.declared.call.Reply.{Reply}
 use Rattle.plant_book.specs.declared.book.Entry.{Entry}
 use Rattle.plant_book.specs.Site.{SiteRecord, inverters}
@@ -97,3 +98,13 @@ IsBook-push book entry kept room next reply = record {
 
 pub IsBuiltBook-push : (book : BookRecord) (entry : Entry) → IsBuiltBook book → IsBuilt entry.call → IsBuiltBook (with_entry book entry)
 IsBuiltBook-push book entry built one = record { policy = built.policy; calls = AllByRecursion-push (λ e. IsBuilt e.call) book.entries entry built.calls one }
+
+-- an empty book of a site that can be opened
+abbrev pub empty_book : SiteRecord → ℕ → BookRecord
+empty_book site start = record { site = site; start = start; entries = [] }
+
+pub IsBook-empty : (site : SiteRecord) (start : ℕ) → IsOpenable site → start ≤ MOMENT_MAX → IsBook (empty_book site start)
+IsBook-empty site start openable low = record { openable = openable; start_high = low; room = omega (arith, openable.checked.room_low); answered = tt; entered = tt }
+
+pub IsBuiltBook-empty : (site : SiteRecord) (start : ℕ) → site.policy ≡ policies.Open → IsBuiltBook (empty_book site start)
+IsBuiltBook-empty site start policy = record { policy = policy; calls = tt }

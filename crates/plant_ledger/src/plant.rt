@@ -5,6 +5,8 @@ ghost use Rattle.plant_book.specs.Calls.{moment, named, entered};
 ghost use Rattle.plant_book.specs.Answer.{reply_to};
 ghost use Rattle.plant_book.specs.Reserved as sums;
 ghost use Rattle.plant_book.specs.Answered.{IsOpenable, IsBook, IsBuilt, IsBuiltBook};
+ghost use Rattle.plant_book.specs.History.{commissioned};
+ghost use Rattle.plant_book.specs.Safe.{IsSafeAlways};
 ghost use Rattle.plant_ledger.specs.Opening.{open_fault, floors, ticket_for};
 
 use crate::ticket::Ticket;
@@ -67,6 +69,7 @@ impl Plant {
         ensures opened { IfOk result (λ plant. plant ≡ record { site = site; start = start; entries = [] }) }
         ensures openable { OnOk result (open_fault site ≡ None) }
         ensures kept { IfOk result (λ plant. IsBook plant) }
+        ensures safe { IfOk result (λ plant. IsSafeAlways (commissioned plant)) }
         ensures refused { IfErr result (λ fault. (fault ≡ OpenFault.NoMemory) ⊎ (open_fault site ≡ Some fault)) }
     {
         refuse(&site)?;
@@ -97,6 +100,9 @@ impl Plant {
         // The book stays one of right replies, and all limits together stay under the cap.
         ensures kept { IsBook self.new }
         ensures capped { sums.total self.new ≤ self.new.site.cap }
+
+        // Whatever the inverters did that follow the timed device, at every moment of the life.
+        ensures safe { IsSafeAlways (commissioned self.new) }
     {
         let calls = self.calls();
         if calls >= self.site().room {

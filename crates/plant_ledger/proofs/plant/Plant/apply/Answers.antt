@@ -12,6 +12,7 @@ use Rattle.plant_book.specs.Reserved.{now_of}
 use Rattle.plant_book.specs.Answer.{reply_to}
 use Rattle.plant_book.specs.Answered.{IsNext, IsBook, IsBuilt, IsBuiltBook}
 use Rattle.plant_book.proofs.Cap.{total_at-capped}
+use Rattle.plant_book.proofs.Safe.{safe_always}
 use Rattle.plant_ledger.proofs.Growth.{IsNext-entered, IsBuilt-at_moment, IsBook-push, IsBuiltBook-push, with_entry}
 use Rattle.plant_ledger.proofs.plant.Plant.apply.Goals as goal
 
@@ -67,3 +68,9 @@ returns-clause-capped c = total_at-capped c.push.new.self (invariant_of-self c).
 
 pub returns-then-calls-site-clause-capped : goal.returns-then-calls-site-clause-capped
 returns-then-calls-site-clause-capped c = total_at-capped c.args.self.now (subst IsBook c.self.view_is c.self.invariant.kept) (now_of c.args.self.now) (omega arith)
+
+pub returns-clause-safe : goal.returns-clause-safe
+returns-clause-safe c = safe_always c.push.new.self (invariant_of-self c).kept (invariant_of-self c).built
+
+pub returns-then-calls-site-clause-safe : goal.returns-then-calls-site-clause-safe
+returns-then-calls-site-clause-safe c = safe_always c.args.self.now (subst IsBook c.self.view_is c.self.invariant.kept) (subst IsBuiltBook c.self.view_is c.self.invariant.built)
