@@ -13,7 +13,7 @@ mod whole_walk;
 pub use fault::WalkFault;
 pub use found::Found;
 pub use walk::{Next, Walk};
-pub use whole_walk::{RegisterMap, discover, one_outcome};
+pub use whole_walk::{RegisterMap, discover, each_chain, one_outcome};
 
 #[cfg(test)]
 mod tests;

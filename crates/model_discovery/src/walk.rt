@@ -1,6 +1,7 @@
 //! The walk over a register map.
-ghost use Rattle.std.specs.Prelude.{◌≡◌, ℕ, ◌+◌, ◌<◌, ◌≤◌, [], ◌∷◌, length, drop, slice_index, if◌then◌else◌};
+ghost use Rattle.std.specs.Prelude.{◌≡◌, ℕ, ◌+◌, ◌<◌, ◌≤◌, List, [], ◌∷◌, length, drop, slice_index, if◌then◌else◌};
 ghost use Rattle.std.specs.Result.{result_err};
+ghost use Rattle.model_discovery.specs.declared.found.Found.{Found as FoundModel};
 ghost use Rattle.model_discovery.specs.Map.{Answer, Exception};
 ghost use Rattle.model_discovery.specs.Chain.{bases, first_of, least_length, model_fault, missing};
 ghost use Rattle.model_discovery.specs.Walking.{Reading, seek, read_header};
@@ -16,6 +17,9 @@ const BASES: [u16; 3] = [40000, 50000, 0];
 
 /// The registers 'SunS', which mark the start of a map.
 const MARK: [u16; 2] = [0x5375, 0x6E53];
+
+/// How many registers a mark has, and a model's header.
+const HEADER: u16 = 2;
 
 /// The identifier that ends the chain.
 const END_MARK: u16 = 0xFFFF;
@@ -37,10 +41,10 @@ pub enum Next {
 
 /// A walk over the SunSpec register map of a device, which finds the chain of its models. It makes no
 /// reads itself: `next` says which is wanted, and `took` or `refused` tells its answer.
-#[derive(Drop)]
+#[derive(Debug, Drop)]
 pub struct Walk {
     stage: Stage,
-    models: ArrayVec<Found, 128>,
+    models: ArrayVec<Found, MODELS_MAX>,
 }
 
 #[derive(Clone, Copy, Debug)]
@@ -62,7 +66,7 @@ impl Model for Walk {
 
     ghost view = { λ walk. record { place = place_of walk.stage; models = walk.models.items } };
 
-    ghost invariant = { λ walk. IsStage walk.stage };
+    ghost invariant = { λ walk. IsStage walk.stage walk.models.items };
 }
 
 impl Walk {
@@ -82,14 +86,18 @@ impl Walk {
     /// The read that is wanted next, always of two registers: a mark or a model's header. Done at the
     /// end of the chain and after a fault.
     pub fn next(&self) -> Next
-        ensures { result ≡ next_read self.now.place }
+        ensures next { result ≡ next_read self.now.place }
+        ensures complete { result ≡ Next.Done → fault_of self.now.place ≡ None → missing self.now.models ≡ None }
     {
         let start = match self.stage {
             Stage::Mark(place) => BASES[place],
             Stage::Header(address) => address,
             Stage::Finished | Stage::Failed(_) => return Next::Done,
         };
-        Next::Read { start, count: 2 }
+        Next::Read {
+            start,
+            count: HEADER,
+        }
     }
 
     /// Takes the two registers of the read that was wanted. Each error is the map's first fault. After
@@ -174,10 +182,10 @@ impl Walk {
 fn after_base(place: usize, marked: bool) -> Stage
     requires { place < 3 }
     ensures step { place_of result ≡ (if marked then Reading (slice_index bases place + 2) else seek (drop (place + 1) bases)) }
-    ensures in_range { IsStage result }
+    ensures in_range { (models : List FoundModel) → IsStage result models }
 {
     if marked {
-        Stage::Header(BASES[place] + 2)
+        Stage::Header(BASES[place] + HEADER)
     } else if place + 1 < BASES.len() {
         Stage::Mark(place + 1)
     } else {
@@ -186,10 +194,10 @@ fn after_base(place: usize, marked: bool) -> Stage
 }
 
 /// The stage after the header of a model, which is taken in where it isn't the end mark or at fault.
-fn after_header(models: &mut ArrayVec<Found, 128>, model: Found) -> Stage
+fn after_header(models: &mut ArrayVec<Found, MODELS_MAX>, model: Found) -> Stage
     requires { model.start ≤ 65534 }
     ensures step { stands result models.new.items ≡ read_header models.old.items model }
-    ensures in_range { IsStage result }
+    ensures in_range { IsStage result models.new.items }
 {
     if model.id == END_MARK {
         return match missing(models) {
@@ -200,7 +208,7 @@ fn after_header(models: &mut ArrayVec<Found, 128>, model: Found) -> Stage
     match model_fault(models, &model) {
         None => {
             models.push(model);
-            Stage::Header(model.start + 2 + model.length)
+            Stage::Header(model.start + HEADER + model.length)
         }
         Some(fault) => Stage::Failed(fault),
     }
@@ -210,7 +218,7 @@ fn after_header(models: &mut ArrayVec<Found, 128>, model: Found) -> Stage
 fn model_fault(before: &[Found], model: &Found) -> Option<WalkFault>
     ensures { result ≡ model_fault before.now model.now }
 {
-    let next = u32::from(model.start) + 2 + u32::from(model.length);
+    let next = u32::from(model.start) + u32::from(HEADER) + u32::from(model.length);
     if before.len() >= MODELS_MAX {
         Some(WalkFault::TooManyModels)
     } else if first_of(before, model.id).is_none() && model.length < least_length(model.id) {

@@ -1,9 +1,9 @@
 //! Whole walks.
-ghost use Rattle.std.specs.Prelude.{◌≡◌, ℕ, List, Result, Ok, Err, IfOk, IfErr, MatchResult};
-ghost use Rattle.model_discovery.specs.declared.found.Found.{Found as Model};
+ghost use Rattle.std.specs.Prelude.{◌≡◌, ◌≤◌, ℕ, List, length, All, Result, Ok, Err, IfOk, IfErr, IfSome, IsSome, MatchResult};
+ghost use Rattle.model_discovery.specs.declared.found.Found.{Found as FoundModel};
 ghost use Rattle.model_discovery.specs.declared.fault.WalkFault.{WalkFault as Fault};
 ghost use Rattle.model_discovery.specs.Map.{Answer, Exception};
-ghost use Rattle.model_discovery.specs.Chain.{IsChain, IsOutcome};
+ghost use Rattle.model_discovery.specs.Chain.{IsChain, IsOutcome, first_of, least_length, next_header};
 ghost use Rattle.model_discovery.specs.Walking.{registers};
 
 use crate::fault::WalkFault;
@@ -36,5 +36,14 @@ pub fn discover<M: RegisterMap>(map: &M) -> Result<Walk, WalkFault>
 
 /// A map has no more than one outcome: a chain, or a fault.
 pub fn one_outcome()
-    ensures { (map : ℕ → Answer) (one other : Result (List Model) Fault) → IsOutcome map one → IsOutcome map other → one ≡ other }
+    ensures { (map : ℕ → Answer) (one other : Result (List FoundModel) Fault) → IsOutcome map one → IsOutcome map other → one ≡ other }
+{}
+
+/// What every chain has: at most 128 models; no header that needs a register past 65535; for each
+/// identifier that is used a first model that is long enough; and models 702 and 704.
+pub fn each_chain()
+    ensures few { (map : ℕ → Answer) (models : List FoundModel) → IsChain map models → length models ≤ 128 }
+    ensures within { (map : ℕ → Answer) (models : List FoundModel) → IsChain map models → All (λ model. next_header model ≤ 65534) models }
+    ensures long_enough { (map : ℕ → Answer) (models : List FoundModel) (id : ℕ) → IsChain map models → IfSome (first_of id models) (λ model. least_length id ≤ model.length) }
+    ensures present { (map : ℕ → Answer) (models : List FoundModel) → IsChain map models → IsSome (first_of 702 models) × IsSome (first_of 704 models) }
 {}
