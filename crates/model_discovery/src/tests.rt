@@ -93,7 +93,7 @@ fn the_bank_takes_seven_reads(rt: HostRuntime) -> Result<(), Fail> {
 fn faults_of_maps(rt: HostRuntime) {
     let mut short = BANK;
     short[5] = (40296, (704, 52));
-    let cases: [(&[Answer], u32, WalkFault); 7] = [
+    let cases: [(&[Answer], u32, WalkFault); 10] = [
         (
             &[(50000, MARK), (50002, (1, 15531))],
             3,
@@ -118,6 +118,18 @@ fn faults_of_maps(rt: HostRuntime) {
             &[(40000, MARK), (40002, (1, 66))],
             3,
             WalkFault::Exception(2),
+        ),
+        // The longest model that leaves room for a header, and longer ones.
+        (&[(0, MARK), (2, (1, 65530))], 5, WalkFault::Exception(2)),
+        (
+            &[(0, MARK), (2, (1, 65531))],
+            4,
+            WalkFault::ChainLeaves(65535),
+        ),
+        (
+            &[(0, MARK), (2, (1, 65534))],
+            4,
+            WalkFault::ChainLeaves(65538),
         ),
         (
             &[(40000, MARK), (40002, (1, 65535))],

@@ -1,5 +1,5 @@
 //! The walk over a register map.
-ghost use Rattle.std.specs.Prelude.{◌≡◌, ℕ, ◌+◌, ◌<◌, ◌≤◌, List, [], ◌∷◌, length, drop, slice_index, if◌then◌else◌};
+ghost use Rattle.std.specs.Prelude.{◌≡◌, ℕ, ◌+◌, ◌<◌, ◌≤◌, List, [], ◌∷◌, length, drop, slice_index, IsSome, if◌then◌else◌};
 ghost use Rattle.std.specs.Result.{result_err};
 ghost use Rattle.model_discovery.specs.declared.found.Found.{Found as FoundModel};
 ghost use Rattle.model_discovery.specs.Map.{Answer, Exception};
@@ -85,9 +85,11 @@ impl Walk {
 
     /// The read that is wanted next, always of two registers: a mark or a model's header. Done at the
     /// end of the chain and after a fault.
+    #[tactic(auto, using(crate::proofs::Facts::none_missing))]
     pub fn next(&self) -> Next
         ensures next { result ≡ next_read self.now.place }
-        ensures complete { result ≡ Next.Done → fault_of self.now.place ≡ None → missing self.now.models ≡ None }
+        ensures complete { result ≡ Next.Done → fault_of self.now.place ≡ None
+            → IsSome (first_of 702 self.now.models) × IsSome (first_of 704 self.now.models) }
     {
         let start = match self.stage {
             Stage::Mark(place) => BASES[place],
