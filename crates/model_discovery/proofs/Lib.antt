@@ -1,0 +1,4 @@
+pub mod Steps
+pub mod Unique
+pub mod Measure
+pub mod Facts

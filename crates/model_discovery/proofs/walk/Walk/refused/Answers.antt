@@ -1,0 +1,6 @@
+use Rattle.model_discovery.specs.Map.{Exception}
+use Rattle.model_discovery.proofs.Steps.{told_on}
+use Rattle.model_discovery.proofs.walk.Walk.refused.Goals as goal
+
+pub returns-clause-on_map : goal.returns-clause-on_map
+returns-clause-on_map c = λ map on answers. rw c.tell_exception.ensures (told_on map c.args.self.now.place c.args.self.now.models (Exception c.args.code) on answers)

@@ -1,0 +1,4 @@
+pub mod Map
+pub mod Chain
+pub mod Walking
+pub mod Stage
