@@ -43,16 +43,16 @@ is_seen (replies.Freed count reserved) = true
 is_seen (replies.Strange raw) = true
 is_seen _ = false
 
-abbrev pub settles_read_of : ℕ → Call → Reply → Bool
-settles_read_of inverter (calls.Link at other) reply = other == inverter
-settles_read_of inverter (calls.Saw at other number raw) reply = if other == inverter then is_seen reply else false
-settles_read_of inverter (calls.Read at other) reply = reads_for inverter reply
-settles_read_of inverter _ reply = false
+abbrev pub changes_by : ℕ → Call → Reply → Bool
+changes_by inverter (calls.Link at other) reply = other == inverter
+changes_by inverter (calls.Saw at other number raw) reply = if other == inverter then is_seen reply else false
+changes_by inverter (calls.Read at other) reply = reads_for inverter reply
+changes_by inverter _ reply = false
 
 -- whether an entry makes or ends the pending read of the inverter: a Read answered ReadAs, a Link, or a Saw
 -- answered Freed or Strange
 abbrev pub changes_pending : ℕ → Entry → Bool
-changes_pending inverter entry = settles_read_of inverter entry.call entry.reply
+changes_pending inverter entry = changes_by inverter entry.call entry.reply
 
 abbrev pub read_of : Reply → Option reads.Read
 read_of (replies.ReadAs read) = Some read

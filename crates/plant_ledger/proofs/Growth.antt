@@ -1,5 +1,5 @@
 -- A book with one more right entry at its end is a book again.
-use Rattle.std.proofs.Common.{◌≡◌, ℕ, ◌+◌, ◌<◌, ◌≤◌, max, List, [], ◌∷◌, ◌++◌, length, Option, Some, None, refl, sym, ap, subst, ◌∙◌, append_assoc, arith}
+use Rattle.std.proofs.Common.{◌≡◌, ℕ, ◌<◌, ◌≤◌, max, List, [], ◌∷◌, ◌++◌, length, Option, refl, sym, subst, append_assoc, arith}
 use Rattle.std.specs.Prelude.{IfSome}
 use Rattle.std.specs.List.{AllByRecursion}
 use Rattle.std.proofs.lemmas.List.{append-nil, length_push}
@@ -8,13 +8,12 @@ use Rattle.plant_book.specs.declared.call.Call.{Call}
 use Rattle.plant_book.specs.declared.call.Call.TheVariants as calls
 use Rattle.plant_book.specs.declared.call.TheConstants.{MOMENT_MAX}
 use Rattle.plant_book.specs.declared.site.Policy.TheVariants as policies
-use Rattle.plant_book.specs.declared.call.Reply.{Reply}
 use Rattle.plant_book.specs.declared.book.Entry.{Entry}
 use Rattle.plant_book.specs.Site.{SiteRecord, inverters}
 use Rattle.plant_book.specs.Book.{BookRecord}
 use Rattle.plant_book.specs.Calls.{moment, at_moment, named, latest, entered}
 use Rattle.plant_book.specs.Answer.{reply_to}
-use Rattle.plant_book.specs.Answered.{EachInTurn, IsAnswer, IsAnswered, IsNext, IsOpenable, IsBook, IsBuilt, IsBuiltBook, with_entries}
+use Rattle.plant_book.specs.Answered.{EachInTurn, IsAnswer, IsNext, IsOpenable, IsBook, IsBuilt, IsBuiltBook, with_entries}
 
 -- what each entry has with the entries before it, one more entry has behind all of them
 pub EachInTurn-push : (Fact : List Entry → Entry → Type 0) (before later : List Entry) (entry : Entry) → EachInTurn Fact before later → Fact (before ++ later) entry → EachInTurn Fact before (later ++ entry ∷ [])

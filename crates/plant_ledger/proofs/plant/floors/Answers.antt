@@ -1,9 +1,8 @@
-use Rattle.std.proofs.Common.{◌≡◌, ◌*◌, ◌+◌, Some, refl, sym, ap, subst, ◌∙◌, ℕ, add-one, rules, arith}
+use Rattle.std.proofs.Common.{◌≡◌, Some, refl, sym, ap, ◌∙◌, ℕ, add-one, arith}
 use Rattle.std.specs.Prelude.{slice_get}
 use Rattle.std.proofs.lemmas.Option.{slice_get_read}
-use Rattle.limiter_num.specs.Rating.{mw}
 use Rattle.plant_book.specs.Sums.{sum_below}
-use Rattle.plant_book.specs.Site.{SiteRecord, floor_at}
+use Rattle.plant_book.specs.Site.{SiteRecord}
 use Rattle.plant_book.proofs.Inverters.{floor_at-is}
 use Rattle.plant_ledger.proofs.plant.floors.Goals as goal
 

@@ -1,7 +1,6 @@
 use Rattle.std.proofs.Common.{◌≡◌, ◌≤◌, ◌*◌, ◌^◌}
 use Rattle.plant_book.specs.Sums.{sum_below}
 use Rattle.plant_book.specs.Site.{floor_at}
-use Rattle.plant_book.specs.Reserved as sums
 use Rattle.plant_ledger.proofs.plant.floors.Given as goal
 
 abbrev pub invariant-loop-inverter : goal.invariant-loop-inverter

@@ -10,4 +10,4 @@ pub returns-clause-safe : goal.returns-clause-safe
 returns-clause-safe c =
     let site = c.args.site in
     subst (λ (b : BookRecord). IsSafeAlways (commissioned b)) (sym c.in-Ok.ensures)
-      (safe_always (empty_book site c.args.start) (IsBook-empty site c.args.start c.in_ok-refuse.ensures.openable c.requires.start) (IsBuiltBook-empty site c.args.start c.requires.policy))
+    (safe_always (empty_book site c.args.start) (IsBook-empty site c.args.start c.in_ok-refuse.ensures.openable c.requires.start) (IsBuiltBook-empty site c.args.start c.requires.policy))

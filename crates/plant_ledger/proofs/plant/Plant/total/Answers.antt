@@ -1,4 +1,4 @@
-use Rattle.std.proofs.Common.{◌≡◌, ◌*◌, ◌+◌, refl, ap, ◌∙◌, ℕ, add-one, arith}
+use Rattle.std.proofs.Common.{◌≡◌, refl, ap, ◌∙◌, ℕ, add-one, arith}
 use Rattle.plant_book.specs.Sums.{sum_below}
 use Rattle.plant_book.specs.Reserved as sums
 use Rattle.plant_book.specs.Site.{inverters}

@@ -1,6 +1,5 @@
 use Rattle.std.proofs.Common.{◌≡◌, ◌≤◌, ◌*◌, ◌^◌}
 use Rattle.plant_book.specs.Sums.{sum_below}
-use Rattle.plant_book.specs.Site.{floor_at}
 use Rattle.plant_book.specs.Reserved as sums
 use Rattle.plant_ledger.proofs.plant.Plant.total.Given as goal
 
