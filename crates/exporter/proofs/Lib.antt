@@ -4,3 +4,6 @@ pub mod Again
 pub mod Fronts
 pub mod Places
 pub mod Progress
+pub mod Written
+pub mod Plays
+pub mod Entering

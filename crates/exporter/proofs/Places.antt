@@ -23,7 +23,7 @@ list_none : {A : Type 0} (o : Option A) → option_to_list o ≡ [] → o ≡ No
 list_none None e = refl
 list_none (Some x) e = absurd cc
 
-list_some : {A : Type 0} (o : Option A) (x : A) → option_to_list o ≡ x ∷ [] → o ≡ Some x
+pub list_some : {A : Type 0} (o : Option A) (x : A) → option_to_list o ≡ x ∷ [] → o ≡ Some x
 list_some None x e = absurd cc
 list_some (Some y) x e = cc
 
@@ -74,17 +74,17 @@ begin_fits script line site at units test is e s u tests =
 
 pub call_fits : (script : Script) (line : Line) (site : site_line.SiteLine) (start : ℕ) (call : Call) (units : ℕ) (calls : List Call) (test : Bool)
     → line ≡ lines.Call call → script.site ≡ Some site → script.start ≡ Some start → units ≡ length script.units.items → calls ≡ script.calls.items
-    → (IsTrue test → IsNextCall site units start calls call) × (IsNextCall site units start calls call → IsTrue test)
+    → (IsTrue test → IsNextCall site.room units start calls call) × (IsNextCall site.room units start calls call → IsTrue test)
     → (IsTrue test → FitsIn script line) × (FitsIn script line → IsTrue test)
 call_fits script line site start call units calls test is e s u cs tests =
     (λ yes. subst (λ (x : Line). FitsIn script x) (sym is) (site, e, start, s,
-        subst (λ (n : ℕ). IsNextCall site n start script.calls.items call) u (subst (λ (x : List Call). IsNextCall site units start x call) cs (tests.0 yes))),
+        subst (λ (n : ℕ). IsNextCall site.room n start script.calls.items call) u (subst (λ (x : List Call). IsNextCall site.room units start x call) cs (tests.0 yes))),
      λ fits. let fits' : FitsIn script (lines.Call call) = subst (λ (x : Line). FitsIn script x) is fits in
        let site-is : fits'.0 ≡ site = some_is fits'.0 site (sym fits'.1 ∙ e) in
        let start-is : fits'.2 ≡ start = some_is fits'.2 start (sym fits'.3 ∙ s) in
-       let next : IsNextCall site (length script.units.items) start script.calls.items call = subst (λ (x : site_line.SiteLine). IsNextCall x (length script.units.items) start script.calls.items call) site-is
-         (subst (λ (n : ℕ). IsNextCall fits'.0 (length script.units.items) n script.calls.items call) start-is fits'.4) in
-       tests.1 (subst (λ (n : ℕ). IsNextCall site n start calls call) (sym u) (subst (λ (x : List Call). IsNextCall site (length script.units.items) start x call) (sym cs) next)))
+       let next : IsNextCall site.room (length script.units.items) start script.calls.items call = subst (λ (x : site_line.SiteLine). IsNextCall x.room (length script.units.items) start script.calls.items call) site-is
+         (subst (λ (n : ℕ). IsNextCall fits'.0.room (length script.units.items) n script.calls.items call) start-is fits'.4) in
+       tests.1 (subst (λ (n : ℕ). IsNextCall site.room n start calls call) (sym u) (subst (λ (x : List Call). IsNextCall site.room (length script.units.items) start x call) (sym cs) next)))
 
 -- ---- what `is_openable` and `last_moment` compute
 

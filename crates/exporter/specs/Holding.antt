@@ -20,9 +20,9 @@ pub record Holds (before : List Line) (script : Script) : Type 0 where
   pub starts : starts_of before ≡ option_to_list script.start
   pub calls : calls_of before ≡ script.calls.items
 
--- the place of a call behind these calls
-abbrev pub IsNextCall : site_line.SiteLine → ℕ → ℕ → List Call → Call → Type 0
-IsNextCall site units start before call = IfSome (named call) (λ inverter. inverter < units) × (last_moment start before ≤ moment call) × (length before < site.room)
+-- the place of a call behind these, in a book of this room, so many inverters and this start
+abbrev pub IsNextCall : ℕ → ℕ → ℕ → List Call → Call → Type 0
+IsNextCall room units start before call = IfSome (named call) (λ inverter. inverter < units) × (last_moment start before ≤ moment call) × (length before < room)
 
 -- the place of a line behind those that the script holds
 abbrev pub FitsIn : Script → Line → Type 0
@@ -31,7 +31,7 @@ FitsIn script (lines.Inverter unit) = (site : site_line.SiteLine) × (script.sit
 FitsIn script (lines.Begin start) = (site : site_line.SiteLine) × (script.site ≡ Some site) × (script.start ≡ None)
     × IsOpenable (site_with site script.units.items)
 FitsIn script (lines.Call call) = (site : site_line.SiteLine) × (script.site ≡ Some site) × (start : ℕ) × (script.start ≡ Some start)
-    × IsNextCall site (length script.units.items) start script.calls.items call
+    × IsNextCall site.room (length script.units.items) start script.calls.items call
 
 -- The bytes begin with a line that goes in: the script is as before, with it.
 pub record TakesLine (old new : Script) (bytes rest : List ℕ) : Type 0 where

@@ -3,3 +3,7 @@ pub mod Script
 pub mod Replay
 pub mod Reading
 pub mod Holding
+pub mod Printing
+pub mod Streams
+pub mod Ends
+pub mod Playing

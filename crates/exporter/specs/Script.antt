@@ -28,19 +28,19 @@ IsLine (lines.Inverter unit) = unit.floor < 2 ^ 16
 IsLine (lines.Begin start) = start ≤ MOMENT_MAX
 IsLine (lines.Call call) = IsBuilt call × FitsCall call × (moment call ≤ MOMENT_MAX)
 
-abbrev site_on : Line → List site.SiteLine
+abbrev pub site_on : Line → List site.SiteLine
 site_on (lines.Site site) = site ∷ []
 site_on _ = []
 
-abbrev unit_on : Line → List unit.Unit
+abbrev pub unit_on : Line → List unit.Unit
 unit_on (lines.Inverter unit) = unit ∷ []
 unit_on _ = []
 
-abbrev start_on : Line → List ℕ
+abbrev pub start_on : Line → List ℕ
 start_on (lines.Begin start) = start ∷ []
 start_on _ = []
 
-abbrev call_on : Line → List Call
+abbrev pub call_on : Line → List Call
 call_on (lines.Call call) = call ∷ []
 call_on _ = []
 

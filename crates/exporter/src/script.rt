@@ -2,7 +2,7 @@ ghost use Rattle.std.specs.Prelude.{◌≡◌, ◌↔◌, ◌+◌, ◌-◌, ◌^
 ghost use Rattle.std.specs.Option.{option_map_or};
 ghost use Rattle.limiter_num.specs.Rating.{mw};
 ghost use Rattle.plant_book.specs.Sums.{sum_below};
-ghost use Rattle.plant_book.specs.Calls.{moment, named};
+ghost use Rattle.plant_book.specs.Calls.{named};
 ghost use Rattle.plant_book.specs.Answered.{IsOpenable};
 ghost use Rattle.exporter.specs.declared.line.Line.{Line};
 ghost use Rattle.exporter.specs.Script.{site_with, last_moment};
@@ -59,23 +59,7 @@ fn last_moment(start: u64, calls: &[Call]) -> u64
 {
     match calls {
         [] => start,
-        [.., last] => moment(last),
-    }
-}
-
-/// The moment of a call, in ms.
-fn moment(call: &Call) -> u64
-    ensures { result ≡ moment call.now }
-{
-    match *call {
-        Call::Link { at, .. }
-        | Call::Ask { at, .. }
-        | Call::Read { at, .. }
-        | Call::Saw { at, .. }
-        | Call::Back { at, .. }
-        | Call::Want { at, .. }
-        | Call::Tick { at }
-        | Call::Stop { at } => at,
+        [.., last] => last.at(),
     }
 }
 
@@ -94,15 +78,15 @@ fn named(call: &Call) -> Option<u8>
     }
 }
 
-/// Whether a call may stand behind others on a site of so many inverters.
-fn is_next_call(site: &SiteLine, units: usize, start: u64, before: &[Call], call: &Call) -> bool
-    ensures { IsTrue result ↔ IsNextCall site.now units start before.now call.now }
+/// Whether a call may stand behind others in a book of this room and so many inverters.
+fn is_next_call(room: u32, units: usize, start: u64, before: &[Call], call: &Call) -> bool
+    ensures { IsTrue result ↔ IsNextCall room units start before.now call.now }
 {
     let of_site = match named(call) {
         Some(inverter) => usize::from(inverter) < units,
         None => true,
     };
-    of_site && last_moment(start, before) <= moment(call) && before.len() < site.room as usize
+    of_site && last_moment(start, before) <= call.at() && before.len() < room as usize
 }
 
 impl Script {
@@ -126,7 +110,7 @@ impl Script {
             (Line::Inverter(_), Some(_), None) => true,
             (Line::Begin(_), Some(site), None) => is_openable(site, &self.units),
             (Line::Call(call), Some(site), Some(start)) => {
-                is_next_call(site, self.units.len(), start, &self.calls, call)
+                is_next_call(site.room, self.units.len(), start, &self.calls, call)
             }
             _ => false,
         }

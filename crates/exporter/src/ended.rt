@@ -1,0 +1,48 @@
+ghost use Rattle.std.specs.Prelude.{◌≡◌};
+ghost use Rattle.exporter.specs.Ends.{status_of};
+
+/// How a line of a script is at fault.
+#[derive(Clone, Copy, Debug, PartialEq, Eq)]
+pub enum LineKind {
+    /// It is no line of the grammar, or not at its place.
+    Form,
+    /// It names an inverter that the site lacks.
+    Inverter,
+    /// It is earlier than the line before.
+    Time,
+    /// A number of it is out of its range.
+    Value,
+}
+
+/// How the program ended.
+#[derive(Clone, Copy, Debug, PartialEq, Eq)]
+pub enum Ended {
+    /// The input was read to its end, and all was written.
+    Done,
+    /// The words of the command line ask for nothing that the program does.
+    BadWords,
+    /// The line of this number, from 1, is the first that is at fault.
+    BadLine { line: u32, kind: LineKind },
+    /// The input failed.
+    ReadFault,
+    /// The output failed.
+    WriteFault,
+    NoMemory,
+    /// The input has more bytes than so many.
+    TooLong { limit: u32 },
+}
+
+/// The status with which the program ends.
+pub fn status(ended: &Ended) -> u8
+    ensures { result ≡ status_of ended.now }
+{
+    match ended {
+        Ended::Done => 0,
+        Ended::BadWords => 2,
+        Ended::BadLine { .. } => 3,
+        Ended::ReadFault => 6,
+        Ended::WriteFault => 7,
+        Ended::NoMemory => 8,
+        Ended::TooLong { .. } => 9,
+    }
+}
