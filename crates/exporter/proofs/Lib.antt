@@ -7,3 +7,4 @@ pub mod Progress
 pub mod Written
 pub mod Plays
 pub mod Entering
+pub mod Endings

@@ -45,3 +45,9 @@ abbrev pub IsDoneOrShort : Ended → Type 0
 IsDoneOrShort ends.Done = Unit {0}
 IsDoneOrShort ends.NoMemory = Unit {0}
 IsDoneOrShort _ = ⊥
+
+-- why the bytes of an input gave no text
+abbrev pub EndsScript : Ended → List ℕ → Type 0
+EndsScript (ends.BadLine line kind) bytes = (kind ≡ kinds.Form) × LeavesFormAt bytes line
+EndsScript ends.NoMemory bytes = Unit {0}
+EndsScript _ bytes = ⊥

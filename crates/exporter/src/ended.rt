@@ -1,6 +1,9 @@
 ghost use Rattle.std.specs.Prelude.{◌≡◌};
 ghost use Rattle.exporter.specs.Ends.{status_of};
 
+use std::fmt;
+use std::fmt::{Display, Formatter};
+
 /// How a line of a script is at fault.
 #[derive(Clone, Copy, Debug, PartialEq, Eq)]
 pub enum LineKind {
@@ -44,5 +47,32 @@ pub fn status(ended: &Ended) -> u8
         Ended::WriteFault => 7,
         Ended::NoMemory => 8,
         Ended::TooLong { .. } => 9,
+    }
+}
+
+impl Display for LineKind {
+    fn fmt<W: fmt::Write>(&self, f: &mut Formatter<W>) -> fmt::Result {
+        let name = match self {
+            LineKind::Form => "form",
+            LineKind::Inverter => "inverter",
+            LineKind::Time => "time",
+            LineKind::Value => "value",
+        };
+        f.write_str(name)
+    }
+}
+
+/// The line on standard error.
+impl Display for Ended {
+    fn fmt<W: fmt::Write>(&self, f: &mut Formatter<W>) -> fmt::Result {
+        match self {
+            Ended::Done => f.write_str("done"),
+            Ended::BadWords => f.write_str("bad words"),
+            Ended::BadLine { line, kind } => write!(f, "line {line}: {kind}"),
+            Ended::ReadFault => f.write_str("read fault"),
+            Ended::WriteFault => f.write_str("write fault"),
+            Ended::NoMemory => f.write_str("no memory"),
+            Ended::TooLong { limit } => write!(f, "too long: {limit}"),
+        }
     }
 }

@@ -5,7 +5,7 @@ ghost use Rattle.world_traits.specs.Causes.{Rose};
 ghost use Rattle.exporter.specs.declared.line.Line.{Line};
 ghost use Rattle.exporter.specs.Script.{IsScript, LeavesFormAt};
 ghost use Rattle.exporter.specs.Replay.{IsReplay};
-ghost use Rattle.exporter.specs.Ends.{AreReplay, EndsBy, Gains, IsDoneOrShort};
+ghost use Rattle.exporter.specs.Ends.{AreReplay, EndsBy, EndsScript, Gains, IsDoneOrShort};
 
 use crate::ended::{Ended, LineKind};
 use crate::input::{INPUT_MAX, InputFault, read_whole};
