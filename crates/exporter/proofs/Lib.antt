@@ -1,0 +1,10 @@
+pub mod Decimals
+pub mod Spelled
+pub mod Again
+pub mod Fronts
+pub mod Places
+pub mod Progress
+pub mod Written
+pub mod Plays
+pub mod Entering
+pub mod Endings

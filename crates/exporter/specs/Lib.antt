@@ -1,0 +1,9 @@
+pub mod Text
+pub mod Script
+pub mod Replay
+pub mod Reading
+pub mod Holding
+pub mod Printing
+pub mod Streams
+pub mod Ends
+pub mod Playing

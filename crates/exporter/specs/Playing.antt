@@ -1,0 +1,56 @@
+-- Scripts that a ledger can play, and what it then keeps.
+use Rattle.std.specs.Prelude.{◌≡◌, ℕ, ◌<◌, ◌≤◌, List, [], ◌∷◌, ◌++◌, length, map, Option, Some, None}
+use Rattle.plant_book.specs.declared.call.Call.{Call}
+use Rattle.plant_book.specs.declared.call.TheConstants.{MOMENT_MAX}
+use Rattle.plant_book.specs.declared.book.Entry.{Entry}
+use Rattle.plant_book.specs.Site.{SiteRecord, inverters}
+use Rattle.plant_book.specs.Book.{BookRecord}
+use Rattle.plant_book.specs.Calls.{moment}
+use Rattle.plant_book.specs.Answered.{IsOpenable, IsBook, IsBuilt}
+use Rattle.exporter.specs.declared.line.SiteLine as site_line
+use Rattle.exporter.specs.declared.script.Script.{Script}
+use Rattle.exporter.specs.Script.{site_with}
+use Rattle.exporter.specs.Holding.{IsNextCall}
+
+-- a call that a ledger with this room, so many inverters and this start takes behind these calls
+pub record CallFits (room units start : ℕ) (before : List Call) (call : Call) : Type 0 where
+  pub built : IsBuilt call
+  pub moment_high : moment call ≤ MOMENT_MAX
+  pub next : IsNextCall room units start before call
+
+abbrev pub EachFits : ℕ → ℕ → ℕ → List Call → List Call → Type 0
+EachFits room units start before [] = Unit {0}
+EachFits room units start before (call ∷ later) = CallFits room units start before call × EachFits room units start (before ++ call ∷ []) later
+
+-- a whole script, whose calls fit
+pub record Playable (script : Script) : Type 0 where
+  pub site : site_line.SiteLine
+  pub site_is : script.site ≡ Some site
+  pub start : ℕ
+  pub start_is : script.start ≡ Some start
+  pub start_high : start ≤ MOMENT_MAX
+  pub openable : IsOpenable (site_with site script.units.items)
+  pub calls : EachFits site.room (length script.units.items) start [] script.calls.items
+
+-- the calls of entries
+abbrev pub calls_in : List Entry → List Call
+calls_in entries = map (λ entry. entry.call) entries
+
+-- calls fit behind those of a book
+abbrev pub FitBehind : BookRecord → List Call → Type 0
+FitBehind book later = EachFits book.site.room (inverters book.site) book.start (calls_in book.entries) later
+
+-- a book is as before, with these calls behind the others
+pub record Enters (old new : BookRecord) (later : List Call) : Type 0 where
+  pub site : new.site ≡ old.site
+  pub start : new.start ≡ old.start
+  pub entered : calls_in new.entries ≡ calls_in old.entries ++ later
+
+-- the book of a script
+pub record Keeps (script : Script) (book : BookRecord) : Type 0 where
+  pub is_book : IsBook book
+  pub site : site_line.SiteLine
+  pub site_is : script.site ≡ Some site
+  pub site_kept : book.site ≡ site_with site script.units.items
+  pub start_kept : script.start ≡ Some book.start
+  pub calls_kept : calls_in book.entries ≡ script.calls.items

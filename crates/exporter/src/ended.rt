@@ -1,0 +1,78 @@
+ghost use Rattle.std.specs.Prelude.{◌≡◌};
+ghost use Rattle.exporter.specs.Ends.{status_of};
+
+use std::fmt;
+use std::fmt::{Display, Formatter};
+
+/// How a line of a script is at fault.
+#[derive(Clone, Copy, Debug, PartialEq, Eq)]
+pub enum LineKind {
+    /// It is no line of the grammar, or not at its place.
+    Form,
+    /// It names an inverter that the site lacks.
+    Inverter,
+    /// It is earlier than the line before.
+    Time,
+    /// A number of it is out of its range.
+    Value,
+}
+
+/// How the program ended.
+#[derive(Clone, Copy, Debug, PartialEq, Eq)]
+pub enum Ended {
+    /// The input was read to its end, and all was written.
+    Done,
+    /// The words of the command line ask for nothing that the program does.
+    BadWords,
+    /// The line of this number, from 1, is the first that is at fault.
+    BadLine { line: u32, kind: LineKind },
+    /// The input failed.
+    ReadFault,
+    /// The output failed.
+    WriteFault,
+    NoMemory,
+    /// The input has more bytes than so many.
+    TooLong { limit: u32 },
+}
+
+/// The status with which the program ends.
+pub fn status(ended: &Ended) -> u8
+    ensures { result ≡ status_of ended.now }
+{
+    match ended {
+        Ended::Done => 0,
+        Ended::BadWords => 2,
+        Ended::BadLine { .. } => 3,
+        Ended::ReadFault => 6,
+        Ended::WriteFault => 7,
+        Ended::NoMemory => 8,
+        Ended::TooLong { .. } => 9,
+    }
+}
+
+impl Display for LineKind {
+    fn fmt<W: fmt::Write>(&self, f: &mut Formatter<W>) -> fmt::Result {
+        let name = match self {
+            LineKind::Form => "form",
+            LineKind::Inverter => "inverter",
+            LineKind::Time => "time",
+            LineKind::Value => "value",
+        };
+        f.write_str(name)
+    }
+}
+
+/// The line on standard error.
+impl Display for Ended {
+    fn fmt<W: fmt::Write>(&self, f: &mut Formatter<W>) -> fmt::Result {
+        match self {
+            Ended::Done => f.write_str("done"),
+            Ended::BadWords => f.write_str("bad words"),
+            Ended::BadLine { line, kind } => write!(f, "line {line}: {kind}"),
+            Ended::ReadFault => f.write_str("read fault"),
+            Ended::WriteFault => f.write_str("write fault"),
+            Ended::NoMemory => f.write_str("no memory"),
+            Ended::TooLong { limit } => write!(f, "too long: {limit}"),
+        }
+    }
+}

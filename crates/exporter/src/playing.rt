@@ -1,0 +1,57 @@
+ghost use Rattle.std.specs.Prelude.{◌≡◌, IfOk, ◌∷◌, []};
+ghost use Rattle.plant_book.specs.Answered.{IsBook};
+ghost use Rattle.exporter.specs.Playing.{Playable, FitBehind, Enters, Keeps};
+
+use crate::script::Script;
+use limiter_num::NoMemory;
+use plant_book::{Call, Policy, Site};
+use plant_ledger::{OpenFault, Plant};
+use std::alloc::Global;
+
+/// Enters a call that fits.
+fn enter(plant: &mut Plant, call: Call)
+    requires { FitBehind plant.old (call ∷ []) }
+    ensures entered { Enters plant.old plant.new (call ∷ []) }
+    ensures kept { IsBook plant.new }
+{
+    match plant.apply(call) {
+        Ok(_) => {}
+        Err(_) => unreachable!(),
+    }
+}
+
+/// Enters calls, each of which fits behind those before it.
+fn enter_all(plant: &mut Plant, calls: &[Call])
+    requires fit { FitBehind plant.old calls.now }
+    requires kept { IsBook plant.old }
+    ensures entered { Enters plant.old plant.new calls.now }
+    ensures kept { IsBook plant.new }
+{
+    for call in calls {
+        enter(plant, *call);
+    }
+}
+
+/// Plays a script from its begin.
+pub fn play(alloc: Global, script: Script) -> Result<Plant, NoMemory>
+    requires { Playable script }
+    ensures { IfOk result (λ plant. Keeps script plant) }
+{
+    let Script {
+        site,
+        units,
+        start,
+        calls,
+    } = script;
+    let (Some(site), Some(start)) = (site, start) else {
+        unreachable!()
+    };
+    let site = Site::new(site.cap, site.rules, Policy::Open, site.room, units);
+    let mut plant = match Plant::open(alloc, site, start) {
+        Ok(plant) => plant,
+        Err(OpenFault::NoMemory) => return Err(NoMemory),
+        Err(_) => unreachable!(),
+    };
+    enter_all(&mut plant, &calls);
+    Ok(plant)
+}

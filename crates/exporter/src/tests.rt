@@ -1,0 +1,171 @@
+use crate::ended::{Ended, LineKind, status};
+use crate::plain::plain;
+use std::alloc::Global;
+use std::process::Abort;
+use std::test::Fail;
+use world_traits::{BytesSink, BytesSource};
+
+/// The head of the site of most rows, with its cap, its room and the lines of two inverters.
+const HEAD: &str = "site 10000000 1000 4000 60 20 500 open 1000
+inverter 6000 0 -1 100
+inverter 6000 0 -1 100
+begin 0
+";
+
+const LINKED: [(&str, &str); 2] = [("link 0 0", "linked 1"), ("link 0 1", "linked 1")];
+
+const RAISE: (&str, &str) = ("ask 66701 0 1000", "granted 1 1");
+
+/// What `plain` answers to a script, and what it writes. The calls of these numbers fail.
+fn run(
+    alloc: Global,
+    word: &str,
+    script: &str,
+    reads: &[u32],
+    writes: &[u32],
+) -> Result<(Ended, BytesSink), Fail> {
+    let mut words = Vec::new(alloc);
+    words.push(String::from_str(alloc, word)?)?;
+    let bytes = Vec::from_slice(alloc, script.as_bytes())?;
+    let mut input = BytesSource::new(bytes, Vec::from_slice(alloc, reads)?);
+    let mut output = BytesSink::new(alloc, Vec::from_slice(alloc, writes)?);
+    let ended = plain(alloc, &words, &mut input, &mut output);
+    Ok((ended, output))
+}
+
+/// Adds calls to a script, and with their replies to a book.
+fn add(script: &mut String, book: &mut String, calls: &[(&str, &str)]) -> Result<(), Fail> {
+    for (call, reply) in calls {
+        write!(script, "{call}\n")?;
+        write!(book, "{call} = {reply}\n")?;
+    }
+    Ok(())
+}
+
+fn replays(rt: &impl Abort, alloc: Global, calls: &[&[(&str, &str)]]) -> Result<(), Fail> {
+    let mut script = String::from_str(alloc, HEAD)?;
+    let mut book = String::from_str(alloc, HEAD)?;
+    for part in calls {
+        add(&mut script, &mut book, part)?;
+    }
+    let (ended, output) = run(alloc, "replay", script.as_str(), &[], &[])?;
+    assert_eq!(rt; ended, Ended::Done);
+    assert_eq!(rt; output.taken(), book.as_bytes());
+    Ok(())
+}
+
+#[test]
+fn a_script_comes_out_as_its_book(rt: HostRuntime) -> Result<(), Fail> {
+    let rows: [&[(&str, &str)]; 5] = [
+        &[("ask 66700 0 1000", "silent 66700")],
+        &[RAISE, ("ask 66702 1 667", "nowatts 3400000")],
+        &[
+            RAISE,
+            ("ask 66702 1 666", "granted 1 1"),
+            ("tick 66702", "total 9996000"),
+        ],
+        &[
+            RAISE,
+            ("tick 133401", "total 6600000"),
+            ("tick 133402", "total 1200000"),
+        ],
+        &[("ask 66701 0 1001", "over 1000")],
+    ];
+    for calls in rows {
+        replays(&rt, rt.alloc(), &[&LINKED, calls])?;
+    }
+    replays(&rt, rt.alloc(), &[&[("ask 66700 0 1000", "unlinked")]])
+}
+
+#[test]
+fn the_33rd_live_write_is_crowded(rt: HostRuntime) -> Result<(), Fail> {
+    let mut script = String::from_str(rt.alloc(), HEAD)?;
+    let mut book = String::from_str(rt.alloc(), HEAD)?;
+    add(&mut script, &mut book, &LINKED)?;
+    for number in 1..33 {
+        let at = 66_700 + number;
+        write!(script, "ask {at} 0 100\n")?;
+        write!(book, "ask {at} 0 100 = granted 1 {number}\n")?;
+    }
+    add(
+        &mut script,
+        &mut book,
+        &[("ask 66733 0 100", "crowded")],
+    )?;
+    let (ended, output) = run(rt.alloc(), "replay", script.as_str(), &[], &[])?;
+    assert_eq!(rt; ended, Ended::Done);
+    assert_eq!(rt; output.taken(), book.as_bytes());
+    Ok(())
+}
+
+#[test]
+fn a_bad_line_is_told_by_its_number(rt: HostRuntime) -> Result<(), Fail> {
+    let rows = [
+        ("", "", 1),
+        (HEAD, "link 0 0\nlink 0 1\nask 66701 0 1000\nread 70000 0\n", 8),
+        (
+            "site 10000000 1000 4000 60 20 500 open 3\ninverter 6000 0 -1 100\ninverter 6000 0 -1 100\nbegin 0\n",
+            "tick 0\ntick 0\ntick 0\ntick 0\n",
+            8,
+        ),
+        (
+            "site 1199999 1000 4000 60 20 500 open 3\ninverter 6000 0 -1 100\ninverter 6000 0 -1 100\nbegin 0\n",
+            "stop 0\n",
+            4,
+        ),
+        (HEAD, "ask 5 2 1\n", 5),
+        (HEAD, "ask 5 0 65536\n", 5),
+        (HEAD, "ask 05 0 1\n", 5),
+        (HEAD, "link 9 0\ntick 8\n", 6),
+        (HEAD, "tick 8", 5),
+        ("site 10000000 1000 4000 60 20 500 open 1000\n", "", 2),
+    ];
+    for (head, calls, line) in rows {
+        let script = format!(in rt.alloc(); "{head}{calls}")?;
+        let (ended, output) = run(rt.alloc(), "replay", script.as_str(), &[], &[])?;
+        let kind = LineKind::Form;
+        assert_eq!(rt; ended, Ended::BadLine { line, kind }, "{script}");
+        assert_eq!(rt; status(&ended), 3);
+        assert!(rt; output.taken().is_empty());
+    }
+    Ok(())
+}
+
+#[test]
+fn a_fault_of_the_input_or_the_output_ends_the_replay(rt: HostRuntime) -> Result<(), Fail> {
+    for call in 0..2 {
+        let (ended, output) = run(rt.alloc(), "replay", HEAD, &[call], &[])?;
+        assert_eq!(rt; ended, Ended::ReadFault);
+        assert_eq!(rt; status(&ended), 6);
+        assert!(rt; output.taken().is_empty());
+    }
+    let (ended, _) = run(rt.alloc(), "replay", HEAD, &[], &[0])?;
+    assert_eq!(rt; ended, Ended::WriteFault);
+    assert_eq!(rt; status(&ended), 7);
+    let (ended, _) = run(rt.alloc(), "replays", HEAD, &[], &[])?;
+    assert_eq!(rt; ended, Ended::BadWords);
+    assert_eq!(rt; status(&ended), 2);
+    Ok(())
+}
+
+#[test]
+fn each_end_has_its_line(rt: HostRuntime) -> Result<(), Fail> {
+    let rows = [
+        (Ended::BadWords, "bad words"),
+        (
+            Ended::BadLine {
+                line: 8,
+                kind: LineKind::Form,
+            },
+            "line 8: form",
+        ),
+        (Ended::ReadFault, "read fault"),
+        (Ended::WriteFault, "write fault"),
+        (Ended::NoMemory, "no memory"),
+        (Ended::TooLong { limit: 134_217_728 }, "too long: 134217728"),
+    ];
+    for (ended, line) in rows {
+        assert_eq!(rt; format!(in rt.alloc(); "{ended}")?.as_str(), line);
+    }
+    Ok(())
+}
