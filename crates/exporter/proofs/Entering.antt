@@ -8,11 +8,10 @@ use Rattle.plant_book.specs.declared.book.Entry.{Entry}
 use Rattle.plant_book.specs.Site.{SiteRecord, inverters}
 use Rattle.plant_book.specs.Book.{BookRecord}
 use Rattle.plant_book.specs.Calls.{moment, entered}
-use Rattle.plant_book.specs.Answered.{IsBook}
 use Rattle.exporter.specs.declared.line.SiteLine as site_line
 use Rattle.exporter.specs.declared.script.Script.{Script}
 use Rattle.exporter.specs.Script.{last_moment, site_with}
-use Rattle.exporter.specs.Playing.{CallFits, EachFits, FitBehind, Enters, Keeps, calls_in}
+use Rattle.exporter.specs.Playing.{CallFits, EachFits, FitBehind, Enters, IsSafeBook, Keeps, calls_in}
 use Rattle.exporter.proofs.Plays.{entered_is}
 
 pub enters_one : (old new : BookRecord) (call : Call) (reply : Reply)
@@ -29,9 +28,9 @@ enters_one old new call reply is later = record {
 pub record Entering (first now : BookRecord) (calls : List Call) (k : ℕ) : Type 0 where
   pub entered : Enters first now (take k calls)
   pub fit : FitBehind now (drop k calls)
-  pub kept : IsBook now
+  pub kept : IsSafeBook now
 
-pub entering_none : (first : BookRecord) (calls : List Call) → FitBehind first calls → IsBook first → Entering first first calls 0
+pub entering_none : (first : BookRecord) (calls : List Call) → FitBehind first calls → IsSafeBook first → Entering first first calls 0
 entering_none first calls fit kept = record { entered = record { site = refl; start = refl; entered = sym (append-nil (calls_in first.entries)) }; fit = fit; kept = kept }
 
 next_is : (calls : List Call) (k : ℕ) (d : Call) → k < length calls → drop k calls ≡ get_or calls k d ∷ drop (k + 1) calls
@@ -42,7 +41,7 @@ next_call now calls k d lt fit =
     let both : FitBehind now (get_or calls k d ∷ drop (k + 1) calls) = subst (λ (xs : List Call). FitBehind now xs) (next_is calls k d lt) fit in
     (both.0, tt)
 
-pub entering_one : (first now next : BookRecord) (calls : List Call) (k : ℕ) (d : Call) → k < length calls → Entering first now calls k → Enters now next (get_or calls k d ∷ []) → IsBook next → Entering first next calls (k + 1)
+pub entering_one : (first now next : BookRecord) (calls : List Call) (k : ℕ) (d : Call) → k < length calls → Entering first now calls k → Enters now next (get_or calls k d ∷ []) → IsSafeBook next → Entering first next calls (k + 1)
 entering_one first now next calls k d lt e one kept =
     let call : Call = get_or calls k d in
     let fit : FitBehind now (call ∷ drop (k + 1) calls) = subst (λ (xs : List Call). FitBehind now xs) (next_is calls k d lt) e.fit in
@@ -60,7 +59,7 @@ entering_one first now next calls k d lt e one kept =
 
 pub kept_all : (script : Script) (line : site_line.SiteLine) (start : ℕ) (made : SiteRecord) (opened new : BookRecord) (calls : List Call)
     → made ≡ site_with line script.units.items → opened ≡ record { site = made; start = start; entries = [] } → Enters opened new calls → calls ≡ script.calls.items
-    → IsBook new → script.site ≡ Some line → script.start ≡ Some start → Keeps script new
+    → IsSafeBook new → script.site ≡ Some line → script.start ≡ Some start → Keeps script new
 kept_all script line start made opened new calls made-is opened-is entered calls-is kept site-is start-is = record {
   is_book = kept;
   site = line;

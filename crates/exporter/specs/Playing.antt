@@ -7,6 +7,8 @@ use Rattle.plant_book.specs.Site.{SiteRecord, inverters}
 use Rattle.plant_book.specs.Book.{BookRecord}
 use Rattle.plant_book.specs.Calls.{moment}
 use Rattle.plant_book.specs.Answered.{IsOpenable, IsBook, IsBuilt}
+use Rattle.plant_book.specs.History.{commissioned}
+use Rattle.plant_book.specs.Safe.{IsSafeAlways}
 use Rattle.exporter.specs.declared.line.SiteLine as site_line
 use Rattle.exporter.specs.declared.script.Script.{Script}
 use Rattle.exporter.specs.Script.{site_with}
@@ -46,9 +48,14 @@ pub record Enters (old new : BookRecord) (later : List Call) : Type 0 where
   pub start : new.start ≡ old.start
   pub entered : calls_in new.entries ≡ calls_in old.entries ++ later
 
+-- a book of right replies, safe at every moment of its life
+pub record IsSafeBook (book : BookRecord) : Type 0 where
+  pub kept : IsBook book
+  pub safe : IsSafeAlways (commissioned book)
+
 -- the book of a script
 pub record Keeps (script : Script) (book : BookRecord) : Type 0 where
-  pub is_book : IsBook book
+  pub is_book : IsSafeBook book
   pub site : site_line.SiteLine
   pub site_is : script.site ≡ Some site
   pub site_kept : book.site ≡ site_with site script.units.items

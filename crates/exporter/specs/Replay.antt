@@ -4,6 +4,8 @@ use Rattle.plant_book.specs.declared.call.Call.{Call}
 use Rattle.plant_book.specs.Site.{SiteRecord}
 use Rattle.plant_book.specs.Book.{BookRecord}
 use Rattle.plant_book.specs.Answered.{IsBook}
+use Rattle.plant_book.specs.History.{commissioned}
+use Rattle.plant_book.specs.Safe.{IsSafeAlways}
 use Rattle.exporter.specs.declared.line.SiteLine as site_line
 use Rattle.exporter.specs.declared.line.Line.{Line}
 use Rattle.exporter.specs.Text.{book_text}
@@ -17,11 +19,13 @@ pub record Tells (script : List Line) (site : SiteRecord) (start : ℕ) (calls :
   pub starts : starts_of script ≡ start ∷ []
   pub calls_are : calls_of script ≡ calls
 
--- this text is that of the book of the script that the bytes spell, each of its replies being right
+-- This text is that of the book of the script that the bytes spell. Each of its replies is right, and the life is
+-- safe at every moment, whatever the inverters did that follow the timed device.
 pub record IsReplay (bytes text : List ℕ) : Type 0 where
   pub lines : List Line
   pub is_script : IsScript bytes lines
   pub book : BookRecord
   pub is_book : IsBook book
+  pub safe : IsSafeAlways (commissioned book)
   pub told : Tells lines book.site book.start (map (λ entry. entry.call) book.entries)
   pub printed : text ≡ book_text book

@@ -1,6 +1,5 @@
 ghost use Rattle.std.specs.Prelude.{◌≡◌, IfOk, ◌∷◌, []};
-ghost use Rattle.plant_book.specs.Answered.{IsBook};
-ghost use Rattle.exporter.specs.Playing.{Playable, FitBehind, Enters, Keeps};
+ghost use Rattle.exporter.specs.Playing.{Playable, FitBehind, Enters, IsSafeBook, Keeps};
 
 use crate::script::Script;
 use limiter_num::NoMemory;
@@ -12,7 +11,7 @@ use std::alloc::Global;
 fn enter(plant: &mut Plant, call: Call)
     requires { FitBehind plant.old (call ∷ []) }
     ensures entered { Enters plant.old plant.new (call ∷ []) }
-    ensures kept { IsBook plant.new }
+    ensures kept { IsSafeBook plant.new }
 {
     match plant.apply(call) {
         Ok(_) => {}
@@ -23,9 +22,9 @@ fn enter(plant: &mut Plant, call: Call)
 /// Enters calls, each of which fits behind those before it.
 fn enter_all(plant: &mut Plant, calls: &[Call])
     requires fit { FitBehind plant.old calls.now }
-    requires kept { IsBook plant.old }
+    requires kept { IsSafeBook plant.old }
     ensures entered { Enters plant.old plant.new calls.now }
-    ensures kept { IsBook plant.new }
+    ensures kept { IsSafeBook plant.new }
 {
     for call in calls {
         enter(plant, *call);
