@@ -13,11 +13,11 @@ script() { # LINES LAST
 measure() { # NAME LINES LAST
     script "$2" "$3" > "$work/script"
     begin=$(date +%s.%N)
-    "$top/exporter" replay < "$work/script" > "$work/text" 2> "$work/error"
+    "$top/crates/exporter/out/exporter" replay < "$work/script" > "$work/text" 2> "$work/error"
     status=$?
     end=$(date +%s.%N)
     printf '%s %s lines: %.2f s, status %s, %s bytes out\n' "$1" "$2" "$(echo "$end - $begin" | bc)" "$status" "$(stat -c %s "$work/text")"
 }
 "$top/exporter" replay < "$top/examples/first-raise.script" > /dev/null
-for lines in 12500 25000 50000 100000; do measure 'read and judged' "$lines" 'tick'; done
-for lines in 250 500 1000 2000; do measure 'replayed' "$lines" ''; done
+for lines in 100000 200000 400000 800000; do measure 'read and judged' "$lines" 'tick'; done
+for lines in 12500 25000 50000 100000; do measure 'replayed' "$lines" ''; done
