@@ -64,9 +64,12 @@ inverter_again : (wmax : ℕ) (wsf psf : ℤ) (floor : ℕ) (rest : List ℕ) �
     → inverter_at (decimal wmax ++ 32 ∷ (signed_decimal wsf ++ 32 ∷ (signed_decimal psf ++ 32 ∷ (decimal floor ++ 10 ∷ rest)))) ≡ Some (fields.Inverter wmax wsf psf floor, rest)
 unfolding inverter_at
 inverter_again wmax wsf psf floor rest a b c d =
-    rw (number_again 32 wmax (signed_decimal wsf ++ 32 ∷ (signed_decimal psf ++ 32 ∷ (decimal floor ++ 10 ∷ rest))) space a,
-        signed_again 32 wsf (signed_decimal psf ++ 32 ∷ (decimal floor ++ 10 ∷ rest)) space b,
-        signed_again 32 psf (decimal floor ++ 10 ∷ rest) space c, number_again 10 floor rest line_end d) refl
+    rw (
+      number_again 32 wmax (signed_decimal wsf ++ 32 ∷ (signed_decimal psf ++ 32 ∷ (decimal floor ++ 10 ∷ rest))) space a,
+      signed_again 32 wsf (signed_decimal psf ++ 32 ∷ (decimal floor ++ 10 ∷ rest)) space b,
+      signed_again 32 psf (decimal floor ++ 10 ∷ rest) space c,
+      number_again 10 floor rest line_end d,
+    ) refl
 
 site_again : (cap send delay timer per_mille slack room : ℕ) (rest : List ℕ) → cap < 2 ^ 64 → send < 2 ^ 64 → delay < 2 ^ 64 → timer < 2 ^ 64 → per_mille < 2 ^ 64 → slack < 2 ^ 64 → room < 2 ^ 64
     → site_at (decimal cap ++ 32 ∷ (decimal send ++ 32 ∷ (decimal delay ++ 32 ∷ (decimal timer ++ 32 ∷ (decimal per_mille ++ 32 ∷ (decimal slack ++ 32 ∷ (codes "open" ++ 32 ∷ (decimal room ++ 10 ∷ rest)))))))) ≡ Some (fields.Site cap send delay timer per_mille slack room, rest)
@@ -78,8 +81,15 @@ site_again cap send delay timer per_mille slack room rest a b c d e f g =
     let t3 : List ℕ = decimal timer ++ 32 ∷ t4 in
     let t2 : List ℕ = decimal delay ++ 32 ∷ t3 in
     let t1 : List ℕ = decimal send ++ 32 ∷ t2 in
-    rw (number_again 32 cap t1 space a, number_again 32 send t2 space b, number_again 32 delay t3 space c, number_again 32 timer t4 space d,
-        number_again 32 per_mille t5 space e, number_again 32 slack t6 space f, number_again 10 room rest line_end g) refl
+    rw (
+      number_again 32 cap t1 space a,
+      number_again 32 send t2 space b,
+      number_again 32 delay t3 space c,
+      number_again 32 timer t4 space d,
+      number_again 32 per_mille t5 space e,
+      number_again 32 slack t6 space f,
+      number_again 10 room rest line_end g,
+    ) refl
 
 -- the numbers of a line, which are read at its front
 pub record IsRead (line : Line) (more : List ℕ) : Type 0 where
@@ -90,14 +100,22 @@ pub record IsRead (line : Line) (more : List ℕ) : Type 0 where
 pub line_again : (line : Line) (more : List ℕ) → IsLine line → IsRead line more
 unfolding fields_at
 line_again (lines.Site site) more is =
-    record { numbers = _; are = refl; found =
-      simp append_assoc (site_again site.cap site.rules.send site.rules.delay site.rules.timer site.rules.per_mille site.rules.slack site.room more
-        (omega (arith, site.cap_high)) (omega (arith, site.rules.send_high)) (omega (arith, site.rules.delay_high)) (omega (arith, site.rules.timer_high))
-        (omega (arith, site.rules.per_mille_high)) (omega (arith, site.rules.slack_high)) (omega (arith, site.room_high))) }
+    record {
+      numbers = _;
+      are = refl;
+      found =
+          simp append_assoc (site_again site.cap site.rules.send site.rules.delay site.rules.timer site.rules.per_mille site.rules.slack site.room more
+          (omega (arith, site.cap_high)) (omega (arith, site.rules.send_high)) (omega (arith, site.rules.delay_high)) (omega (arith, site.rules.timer_high))
+          (omega (arith, site.rules.per_mille_high)) (omega (arith, site.rules.slack_high)) (omega (arith, site.room_high)));
+    }
 line_again (lines.Inverter unit) more is =
-    record { numbers = _; are = refl; found =
-      simp append_assoc (inverter_again unit.rating.wmax unit.rating.wsf unit.rating.psf unit.floor more (omega (arith, unit.rating.sound.implemented))
-        (fits_16 unit.rating.wsf unit.rating.sound.wsf_low unit.rating.sound.wsf_high) (fits_16 unit.rating.psf unit.rating.sound.psf_low unit.rating.sound.psf_high) (omega (arith, is))) }
+    record {
+      numbers = _;
+      are = refl;
+      found =
+          simp append_assoc (inverter_again unit.rating.wmax unit.rating.wsf unit.rating.psf unit.floor more (omega (arith, unit.rating.sound.implemented))
+          (fits_16 unit.rating.wsf unit.rating.sound.wsf_low unit.rating.sound.wsf_high) (fits_16 unit.rating.psf unit.rating.sound.psf_low unit.rating.sound.psf_high) (omega (arith, is)));
+    }
 line_again (lines.Begin start) more is =
     record { numbers = _; are = refl; found = simp append_assoc (begin_again start more (omega (arith, is))) }
 line_again (lines.Call (calls.Link at inverter)) more is =

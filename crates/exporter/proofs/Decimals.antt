@@ -53,23 +53,23 @@ digits_take [] end number n rest small e = absurd cc
 digits_take (c ∷ cs) end number n rest small e =
     elim (chosen (eqb c end) (Some (number, cs)) (cond (ltb c 48 || ltb 57 c) None (cond (ltb (number * 10 + (c - 48)) (2 ^ 64)) (digits_at end (number * 10 + (c - 48)) cs) None)) (Some (n, rest)) e) [
       | inl is ↦
-        let same : (number, cs) ≡ (n, rest) = some_is (number, cs) (n, rest) is.1 in
-        let n-is : number ≡ n = ap (λ (p : ℕ × List ℕ). p.0) same in
-        let rest-is : cs ≡ rest = ap (λ (p : ℕ × List ℕ). p.1) same in
-        let end-is : c ≡ end = eqb-true c end is.0 in
-        record { ds = []; parts = cc; digits = tt; value = sym n-is; small = rw (← n-is) small }
+          let same : (number, cs) ≡ (n, rest) = some_is (number, cs) (n, rest) is.1 in
+          let n-is : number ≡ n = ap (λ (p : ℕ × List ℕ). p.0) same in
+          let rest-is : cs ≡ rest = ap (λ (p : ℕ × List ℕ). p.1) same in
+          let end-is : c ≡ end = eqb-true c end is.0 in
+          record { ds = []; parts = cc; digits = tt; value = sym n-is; small = rw (← n-is) small }
       | inr not ↦
-        elim (chosen (ltb c 48 || ltb 57 c) None (cond (ltb (number * 10 + (c - 48)) (2 ^ 64)) (digits_at end (number * 10 + (c - 48)) cs) None) (Some (n, rest)) not.1) [
-          | inl bad ↦ absurd cc
-          | inr digit ↦
-            elim (chosen (ltb (number * 10 + (c - 48)) (2 ^ 64)) (digits_at end (number * 10 + (c - 48)) cs) None (Some (n, rest)) digit.1) [
-              | inl fits ↦
-                let more = digits_take cs end (number * 10 + (c - 48)) n rest (ltb-true _ _ fits.0) fits.1 in
-                let range = outside 48 57 c digit.0 in
-                record { ds = c ∷ more.ds; parts = ap (λ (x : List ℕ). c ∷ x) more.parts; digits = (range.0, range.1, more.digits); value = more.value; small = more.small }
-              | inr big ↦ absurd cc
-            ]
-        ]
+          elim (chosen (ltb c 48 || ltb 57 c) None (cond (ltb (number * 10 + (c - 48)) (2 ^ 64)) (digits_at end (number * 10 + (c - 48)) cs) None) (Some (n, rest)) not.1) [
+            | inl bad ↦ absurd cc
+            | inr digit ↦
+                elim (chosen (ltb (number * 10 + (c - 48)) (2 ^ 64)) (digits_at end (number * 10 + (c - 48)) cs) None (Some (n, rest)) digit.1) [
+                  | inl fits ↦
+                      let more = digits_take cs end (number * 10 + (c - 48)) n rest (ltb-true _ _ fits.0) fits.1 in
+                      let range = outside 48 57 c digit.0 in
+                      record { ds = c ∷ more.ds; parts = ap (λ (x : List ℕ). c ∷ x) more.parts; digits = (range.0, range.1, more.digits); value = more.value; small = more.small }
+                  | inr big ↦ absurd cc
+                ]
+          ]
     ]
 
 digits_again : (ds : List ℕ) (end number : ℕ) (rest : List ℕ) → end < 48 → IsDigits ds → read_on number ds < 2 ^ 64 → digits_at end number (ds ++ end ∷ rest) ≡ Some (read_on number ds, rest)
@@ -92,10 +92,10 @@ end_takes end [] n rest e = absurd cc
 end_takes end (c ∷ cs) n rest e =
     elim (chosen (eqb c end) (Some (0, cs)) None (Some (n, rest)) e) [
       | inl is ↦
-        let same : (0, cs) ≡ (n, rest) = some_is (0, cs) (n, rest) is.1 in
-        let end-is : c ≡ end = eqb-true c end is.0 in
-        let rest-is : cs ≡ rest = ap (λ (p : ℕ × List ℕ). p.1) same in
-        (sym (ap (λ (p : ℕ × List ℕ). p.0) same), cc)
+          let same : (0, cs) ≡ (n, rest) = some_is (0, cs) (n, rest) is.1 in
+          let end-is : c ≡ end = eqb-true c end is.0 in
+          let rest-is : cs ≡ rest = ap (λ (p : ℕ × List ℕ). p.1) same in
+          (sym (ap (λ (p : ℕ × List ℕ). p.0) same), cc)
       | inr not ↦ absurd cc
     ]
 
@@ -105,22 +105,22 @@ number_takes end [] n rest e = absurd cc
 number_takes end (c ∷ cs) n rest e =
     elim (chosen (eqb c 48) (end_at end cs) (cond (ltb c 49 || ltb 57 c) None (digits_at end (c - 48) cs)) (Some (n, rest)) e) [
       | inl nil ↦
-        let both = end_takes end cs n rest nil.1 in
-        let c-is : c ≡ 48 = eqb-true c 48 nil.0 in
-        let spelled : decimal n ≡ 48 ∷ [] = ap decimal both.0 ∙ decimal_digit 0 (omega arith) in
-        record { parts = rw (spelled, c-is) (ap (λ (x : List ℕ). 48 ∷ x) both.1); small = omega (arith, both.0) }
+          let both = end_takes end cs n rest nil.1 in
+          let c-is : c ≡ 48 = eqb-true c 48 nil.0 in
+          let spelled : decimal n ≡ 48 ∷ [] = ap decimal both.0 ∙ decimal_digit 0 (omega arith) in
+          record { parts = rw (spelled, c-is) (ap (λ (x : List ℕ). 48 ∷ x) both.1); small = omega (arith, both.0) }
       | inr not ↦
-        elim (chosen (ltb c 49 || ltb 57 c) None (digits_at end (c - 48) cs) (Some (n, rest)) not.1) [
-          | inl bad ↦ absurd cc
-          | inr digit ↦
-            let range = outside 49 57 c digit.0 in
-            let more = digits_take cs end (c - 48) n rest (omega (arith, range.1)) digit.1 in
-            let front : c - 48 ≡ 0 * 10 + (c - 48) = omega arith in
-            let value : n ≡ read_on 0 (c ∷ more.ds) = more.value ∙ ap (λ (k : ℕ). read_on k more.ds) front in
-            let spelled : decimal (read_on 0 (c ∷ more.ds)) ≡ c ∷ more.ds =
-              decimal-digits_value own (c ∷ more.ds) ((omega (arith, range.0)), range.1, more.digits) (omega arith) (λ first. absurd (omega (arith, range.0, first))) (omega (arith, more.small, value)) in
-            record { parts = rw (value, spelled) (ap (λ (x : List ℕ). c ∷ x) more.parts); small = more.small }
-        ]
+          elim (chosen (ltb c 49 || ltb 57 c) None (digits_at end (c - 48) cs) (Some (n, rest)) not.1) [
+            | inl bad ↦ absurd cc
+            | inr digit ↦
+                let range = outside 49 57 c digit.0 in
+                let more = digits_take cs end (c - 48) n rest (omega (arith, range.1)) digit.1 in
+                let front : c - 48 ≡ 0 * 10 + (c - 48) = omega arith in
+                let value : n ≡ read_on 0 (c ∷ more.ds) = more.value ∙ ap (λ (k : ℕ). read_on k more.ds) front in
+                let spelled : decimal (read_on 0 (c ∷ more.ds)) ≡ c ∷ more.ds =
+                decimal-digits_value own (c ∷ more.ds) ((omega (arith, range.0)), range.1, more.digits) (omega arith) (λ first. absurd (omega (arith, range.0, first))) (omega (arith, more.small, value)) in
+                record { parts = rw (value, spelled) (ap (λ (x : List ℕ). c ∷ x) more.parts); small = more.small }
+          ]
     ]
 
 first_is : (c : ℕ) (cs : List ℕ) → c ∷ cs ≡ 48 ∷ [] → c ≡ 48
@@ -136,16 +136,16 @@ spelled_again [] end n rest low digits value small long first none = absurd (ome
 spelled_again (c ∷ cs) end n rest low digits value small long first none =
     elim (eqb_tells n 0) [
       | inl nil ↦
-        let c-is : c ≡ 48 = first_is c cs (none nil.1) in
-        let cs-is : cs ≡ [] = rest_is c cs (none nil.1) in
-        rw (c-is, cs-is, nil.1, eq-eqb end end refl) refl
+          let c-is : c ≡ 48 = first_is c cs (none nil.1) in
+          let cs-is : cs ≡ [] = rest_is c cs (none nil.1) in
+          rw (c-is, cs-is, nil.1, eq-eqb end end refl) refl
       | inr above ↦
-        let above : 48 < c = first (omega (arith, above.1)) in
-        let other : eqb c 48 ≡ false = ne_eqb c 48 (omega arith) in
-        let digit = inside 49 57 c above digits.1 in
-        let front : 0 * 10 + (c - 48) ≡ c - 48 = omega arith in
-        let value' : read_on (c - 48) cs ≡ n = ap (λ (k : ℕ). read_on k cs) (sym front) ∙ value in
-        rw (other, digit) (digits_again cs end (c - 48) rest low digits.2 (omega (arith, value', small)) ∙ ap (λ (k : ℕ). Some (k, rest)) value')
+          let above : 48 < c = first (omega (arith, above.1)) in
+          let other : eqb c 48 ≡ false = ne_eqb c 48 (omega arith) in
+          let digit = inside 49 57 c above digits.1 in
+          let front : 0 * 10 + (c - 48) ≡ c - 48 = omega arith in
+          let value' : read_on (c - 48) cs ≡ n = ap (λ (k : ℕ). read_on k cs) (sym front) ∙ value in
+          rw (other, digit) (digits_again cs end (c - 48) rest low digits.2 (omega (arith, value', small)) ∙ ap (λ (k : ℕ). Some (k, rest)) value')
     ]
 
 pub number_again : (end n : ℕ) (rest : List ℕ) → end < 48 → n < 2 ^ 64 → number_at end (decimal n ++ end ∷ rest) ≡ Some (n, rest)

@@ -17,7 +17,7 @@ use Rattle.exporter.specs.Script.{MayFollow, EachMayFollow, lines_text, IsBegun,
 use Rattle.exporter.specs.Replay.{IsReplay}
 use Rattle.exporter.specs.Holding.{ScriptOf}
 use Rattle.exporter.specs.Playing as playing
-use Rattle.exporter.specs.Ends.{EndsBy, EndsScript, Gains, IsDoneOrShort}
+use Rattle.exporter.specs.Ends.{EndsBy, EndsScript, GainsNothing, IsDoneOrShort}
 use Rattle.exporter.proofs.Fronts.{one_line}
 use Rattle.exporter.proofs.Progress.{line_long}
 
@@ -29,12 +29,44 @@ walk acc (b ∷ bs) [] rest form whole e leaves unfinished begun = omega (arith,
 walk acc (b ∷ bs) (s ∷ ss) rest form whole e leaves unfinished begun =
     let same = one_line s b (lines_text ss) (lines_text bs ++ rest) whole.0.0 form.0.0 (e ∙ append_assoc (line_text b) (lines_text bs) rest) in
     walk (acc ++ b ∷ []) bs ss rest form.1 (subst (λ (x : Line). EachMayFollow (acc ++ x ∷ []) ss) same.0 whole.1) same.1
-      (λ line more may. leaves line more (subst (λ (xs : List Line). MayFollow xs line) (append_assoc acc (b ∷ []) bs) may))
-      (λ none begun'. unfinished none (subst IsBegun (append_assoc acc (b ∷ []) bs) begun'))
-      (subst IsBegun (sym (append_assoc acc (b ∷ []) ss)) (subst (λ (x : Line). IsBegun (acc ++ x ∷ ss)) same.0 begun))
+    (λ line more may. leaves line more (subst (λ (xs : List Line). MayFollow xs line) (append_assoc acc (b ∷ []) bs) may))
+    (λ none begun'. unfinished none (subst IsBegun (append_assoc acc (b ∷ []) bs) begun'))
+    (subst IsBegun (sym (append_assoc acc (b ∷ []) ss)) (subst (λ (x : Line). IsBegun (acc ++ x ∷ ss)) same.0 begun))
 
 pub no_script_leaves : (bytes : List ℕ) (script : List Line) (number : ℕ) → IsScript bytes script → LeavesFormAt bytes number → ⊥
 no_script_leaves bytes script number s l = walk [] l.before script l.rest l.form s.form (sym s.spelled ∙ l.spelled) l.leaves l.unfinished s.begun
+
+same_lines : (acc a b : List Line) → EachMayFollow acc a → EachMayFollow acc b → lines_text a ≡ lines_text b → a ≡ b
+same_lines acc [] [] p q e = refl
+same_lines acc [] (b ∷ bs) p q e = absurd (omega (arith, line_long b [] (lines_text bs) e))
+same_lines acc (a ∷ ls) [] p q e = absurd (omega (arith, line_long a [] (lines_text ls) (sym e)))
+same_lines acc (a ∷ ls) (b ∷ bs) p q e =
+    let same = one_line a b (lines_text ls) (lines_text bs) p.0.0 q.0.0 e in
+    let more = same_lines (acc ++ a ∷ []) ls bs p.1 (subst (λ (x : Line). EachMayFollow (acc ++ x ∷ []) bs) (sym same.0) q.1) same.1 in
+    ap (λ (x : Line). x ∷ ls) same.0 ∙ ap (λ (xs : List Line). b ∷ xs) more
+
+pub one_script : (bytes : List ℕ) (a b : List Line) → IsScript bytes a → IsScript bytes b → a ≡ b
+one_script bytes a b p q = same_lines [] a b p.form q.form (sym p.spelled ∙ q.spelled)
+
+abbrev Leaves : List Line → List ℕ → Type 0
+Leaves before rest = (line : Line) (more : List ℕ) → MayFollow before line → rest ≡ line_text line ++ more → ⊥
+
+same_count : (acc a b : List Line) (x y : List ℕ) → EachMayFollow acc a → EachMayFollow acc b → lines_text a ++ x ≡ lines_text b ++ y → Leaves (acc ++ a) x → Leaves (acc ++ b) y → length a ≡ length b
+same_count acc [] [] x y p q e leaves leaves' = refl
+same_count acc [] (b ∷ bs) x y p q e leaves leaves' =
+    absurd (leaves b (lines_text bs ++ y) (subst (λ (xs : List Line). MayFollow xs b) (sym (append-nil acc)) q.0) (e ∙ append_assoc (line_text b) (lines_text bs) y))
+same_count acc (a ∷ ls) [] x y p q e leaves leaves' =
+    absurd (leaves' a (lines_text ls ++ x) (subst (λ (xs : List Line). MayFollow xs a) (sym (append-nil acc)) p.0) (sym e ∙ append_assoc (line_text a) (lines_text ls) x))
+same_count acc (a ∷ ls) (b ∷ bs) x y p q e leaves leaves' =
+    let same = one_line a b (lines_text ls ++ x) (lines_text bs ++ y) p.0.0 q.0.0 (sym (append_assoc (line_text a) (lines_text ls) x) ∙ e ∙ append_assoc (line_text b) (lines_text bs) y) in
+    let rest = same_count (acc ++ a ∷ []) ls bs x y p.1 (subst (λ (z : Line). EachMayFollow (acc ++ z ∷ []) bs) (sym same.0) q.1) same.1
+      (subst (λ (xs : List Line). Leaves xs x) (sym (append_assoc acc (a ∷ []) ls)) leaves)
+      (subst (λ (xs : List Line). Leaves xs y) (sym (append_assoc acc (a ∷ []) bs)) (subst (λ (z : Line). Leaves (acc ++ z ∷ bs) y) (sym same.0) leaves')) in
+    omega (arith, rest)
+
+pub one_number : (bytes : List ℕ) (m n : ℕ) → LeavesFormAt bytes m → LeavesFormAt bytes n → m ≡ n
+one_number bytes m n p q =
+    omega (arith, p.counted, q.counted, same_count [] p.before q.before p.rest q.rest p.form q.form (sym p.spelled ∙ q.spelled) p.leaves q.leaves)
 
 -- ---- what the source told
 
@@ -78,9 +110,10 @@ pub one_word : {A : Type 0} (f : A → List ℕ) (items : List A) (word : A) (te
     → (test ≡ true → f word ≡ text) × (f word ≡ text → test ≡ true) → (test ≡ true → map f items ≡ text ∷ []) × (map f items ≡ text ∷ [] → test ≡ true)
 one_word f [] word text test one is tests = absurd (omega (arith, one))
 one_word f (x ∷ y ∷ more) word text test one is tests = absurd (omega (arith, one))
-one_word f (x ∷ []) word text test one is tests =
-    (λ yes. ap (λ (t : List ℕ). t ∷ []) (sym (ap f is) ∙ tests.0 yes),
-     λ same. let front : f x ≡ text = cc in tests.1 (ap f is ∙ front))
+one_word f (x ∷ []) word text test one is tests = (
+  λ yes. ap (λ (t : List ℕ). t ∷ []) (sym (ap f is) ∙ tests.0 yes),
+  λ same. let front : f x ≡ text = cc in tests.1 (ap f is ∙ front),
+)
 
 -- ---- the ends of a replay that wrote nothing
 
@@ -88,14 +121,14 @@ pub keeps : (a : Option (List ℕ)) → Keeps a a
 keeps None = tt
 keeps (Some xs) = refl
 
-pub gains_nothing : (ended : Ended) (before now : ℕ) (told out : Option (List ℕ)) (IsText : List ℕ → Type 0) → EndsBy ended before now told → Gains ended out out IsText
-gains_nothing ends.ReadFault before now told out IsText by = keeps out
-gains_nothing (ends.BadLine line kind) before now told out IsText by = keeps out
-gains_nothing (ends.TooLong limit) before now told out IsText by = keeps out
-gains_nothing ends.NoMemory before now told out IsText by = keeps out
-gains_nothing ends.BadWords before now told out IsText by = absurd by
-gains_nothing ends.Done before now told out IsText by = absurd by
-gains_nothing ends.WriteFault before now told out IsText by = absurd by
+pub gains_nothing : (ended : Ended) (before now : ℕ) (told out : Option (List ℕ)) → EndsBy ended before now told → GainsNothing ended out out
+gains_nothing ends.ReadFault before now told out by = keeps out
+gains_nothing (ends.BadLine line kind) before now told out by = keeps out
+gains_nothing (ends.TooLong limit) before now told out by = keeps out
+gains_nothing ends.NoMemory before now told out by = keeps out
+gains_nothing ends.BadWords before now told out by = absurd by
+gains_nothing ends.Done before now told out by = absurd by
+gains_nothing ends.WriteFault before now told out by = absurd by
 
 pub complete_by : (ended : Ended) (before now : ℕ) (told : Option (List ℕ)) (Other : Type 0) → EndsBy ended before now told
     → IfSome told (λ bytes. length bytes ≤ 134217728 → (script : List Line) → IsScript bytes script → (Rose before now → ⊥) → (Other → ⊥) → IsDoneOrShort ended)

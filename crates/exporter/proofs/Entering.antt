@@ -21,7 +21,7 @@ enters_one old new call reply is later = record {
   site = ap (λ (b : BookRecord). b.site) is;
   start = ap (λ (b : BookRecord). b.start) is;
   entered = ap (λ (b : BookRecord). calls_in b.entries) is ∙ map_push (λ (entry : Entry). entry.call) old.entries (record { call = entered old.start old.entries call; reply = reply })
-    ∙ ap (λ (c : Call). calls_in old.entries ++ c ∷ []) (entered_is old.start old.entries call later);
+      ∙ ap (λ (c : Call). calls_in old.entries ++ c ∷ []) (entered_is old.start old.entries call later);
 }
 
 -- the first calls were entered, and the others fit
@@ -52,7 +52,7 @@ entering_one first now next calls k d lt e one kept =
         entered = one.entered ∙ ap (λ (xs : List Call). xs ++ call ∷ []) e.entered.entered ∙ append_assoc (calls_in first.entries) (take k calls) (call ∷ []) ∙ ap (λ (xs : List Call). calls_in first.entries ++ xs) (sym (take_more calls k d lt));
       };
       fit = subst (λ (site : SiteRecord). EachFits site.room (inverters site) next.start (calls_in next.entries) (drop (k + 1) calls)) (sym one.site)
-        (subst (λ (start : ℕ). EachFits now.site.room (inverters now.site) start (calls_in next.entries) (drop (k + 1) calls)) (sym one.start)
+          (subst (λ (start : ℕ). EachFits now.site.room (inverters now.site) start (calls_in next.entries) (drop (k + 1) calls)) (sym one.start)
           (subst (λ (xs : List Call). EachFits now.site.room (inverters now.site) now.start xs (drop (k + 1) calls)) (sym one.entered) fit.1));
       kept = kept;
     }

@@ -59,12 +59,12 @@ over {A} P make prop x y e = subst (λ (z : A). (p : P x) (q : P z) → make x p
 same_rating : (a b : Rating) → a.wmax ≡ b.wmax → a.wsf ≡ b.wsf → a.psf ≡ b.psf → a ≡ b
 same_rating a b wmax wsf psf =
     over {A = ℕ × ℤ × ℤ} {B = Rating} (λ n. IsRated n.0 n.1 n.2) (λ n p. record { wmax = n.0; wsf = n.1; psf = n.2; sound = p }) (λ n. hlevel props)
-      (a.wmax, a.wsf, a.psf) (b.wmax, b.wsf, b.psf) (λ i. (wmax i, wsf i, psf i)) a.sound b.sound
+    (a.wmax, a.wsf, a.psf) (b.wmax, b.wsf, b.psf) (λ i. (wmax i, wsf i, psf i)) a.sound b.sound
 
 same_unit : (a b : unit.Unit) → a.rating ≡ b.rating → a.floor ≡ b.floor → a ≡ b
 same_unit a b rating floor =
     over {A = Rating × ℕ} {B = unit.Unit} (λ n. n.1 ≤ full_of n.0.psf) (λ n p. record { rating = n.0; floor = n.1; within = p }) (λ n. hlevel props)
-      (a.rating, a.floor) (b.rating, b.floor) (λ i. (rating i, floor i)) a.within b.within
+    (a.rating, a.floor) (b.rating, b.floor) (λ i. (rating i, floor i)) a.within b.within
 
 record InRange (send delay timer per_mille slack : ℕ) : Type 0 where
   send_low : 1 ≤ send
@@ -82,15 +82,27 @@ same_rules : (a b : Rules) → a.send ≡ b.send → a.delay ≡ b.delay → a.t
 unfolding in_range
 same_rules a b send delay timer per_mille slack =
     over {A = ℕ × ℕ × ℕ × ℕ × ℕ} {B = Rules} (λ n. InRange n.0 n.1 n.2 n.3 n.4)
-      (λ n p. record { send = n.0; delay = n.1; timer = n.2; per_mille = n.3; slack = n.4; send_low = p.send_low; send_high = p.send_high; delay_high = p.delay_high;
-        timer_low = p.timer_low; timer_high = p.timer_high; per_mille_high = p.per_mille_high; slack_high = p.slack_high }) (λ n. hlevel props)
-      (a.send, a.delay, a.timer, a.per_mille, a.slack) (b.send, b.delay, b.timer, b.per_mille, b.slack) (λ i. (send i, delay i, timer i, per_mille i, slack i)) (in_range a) (in_range b)
+    (λ n p. record {
+      send = n.0;
+      delay = n.1;
+      timer = n.2;
+      per_mille = n.3;
+      slack = n.4;
+      send_low = p.send_low;
+      send_high = p.send_high;
+      delay_high = p.delay_high;
+      timer_low = p.timer_low;
+      timer_high = p.timer_high;
+      per_mille_high = p.per_mille_high;
+      slack_high = p.slack_high;
+    }) (λ n. hlevel props)
+    (a.send, a.delay, a.timer, a.per_mille, a.slack) (b.send, b.delay, b.timer, b.per_mille, b.slack) (λ i. (send i, delay i, timer i, per_mille i, slack i)) (in_range a) (in_range b)
 
 same_site : (a b : site_line.SiteLine) → a.cap ≡ b.cap → a.rules ≡ b.rules → a.room ≡ b.room → a ≡ b
 same_site a b cap rules room =
     over {A = ℕ × Rules × ℕ} {B = site_line.SiteLine} (λ n. (n.0 ≤ CAP_MAX) × (1 ≤ n.2) × (n.2 ≤ ROOM_MAX))
-      (λ n p. record { cap = n.0; rules = n.1; room = n.2; cap_high = p.0; room_low = p.1; room_high = p.2 }) (λ n. hlevel props)
-      (a.cap, a.rules, a.room) (b.cap, b.rules, b.room) (λ i. (cap i, rules i, room i)) (a.cap_high, a.room_low, a.room_high) (b.cap_high, b.room_low, b.room_high)
+    (λ n p. record { cap = n.0; rules = n.1; room = n.2; cap_high = p.0; room_low = p.1; room_high = p.2 }) (λ n. hlevel props)
+    (a.cap, a.rules, a.room) (b.cap, b.rules, b.room) (λ i. (cap i, rules i, room i)) (a.cap_high, a.room_low, a.room_high) (b.cap_high, b.room_low, b.room_high)
 
 -- what numbers tell, by their kinds
 abbrev told_site : Option Fields → ℕ × ℕ × ℕ × ℕ × ℕ × ℕ × ℕ

@@ -30,26 +30,48 @@ list_some (Some y) x e = cc
 pub fits_place : (script : Script) (before : List Line) (line : Line) → Holds before script → IsLine line → FitsIn script line → MayFollow before line
 fits_place script before (lines.Site site) holds is fits = (is, holds.sites ∙ ap option_to_list fits)
 fits_place script before (lines.Inverter unit) holds is fits = (is, (fits.0, holds.sites ∙ ap option_to_list fits.1, holds.starts ∙ ap option_to_list fits.2))
-fits_place script before (lines.Begin at) holds is fits =
-    (is, (fits.0, holds.sites ∙ ap option_to_list fits.1, holds.starts ∙ ap option_to_list fits.2,
-      subst (λ (units : List unit.Unit). IsOpenable (site_with fits.0 units)) (sym holds.units) fits.3))
-fits_place script before (lines.Call call) holds is fits =
-    (is, (fits.0, holds.sites ∙ ap option_to_list fits.1, fits.2, holds.starts ∙ ap option_to_list fits.3,
-      subst (λ (units : List unit.Unit). IfSome (named call) (λ inverter. inverter < length units)) (sym holds.units) fits.4.0,
-      subst (λ (calls : List Call). last_moment fits.2 calls ≤ moment call) (sym holds.calls) fits.4.1,
-      subst (λ (calls : List Call). length calls < fits.0.room) (sym holds.calls) fits.4.2))
+fits_place script before (lines.Begin at) holds is fits = (
+  is,
+  (
+    fits.0,
+    holds.sites ∙ ap option_to_list fits.1,
+    holds.starts ∙ ap option_to_list fits.2,
+    subst (λ (units : List unit.Unit). IsOpenable (site_with fits.0 units)) (sym holds.units) fits.3,
+  ),
+)
+fits_place script before (lines.Call call) holds is fits = (
+  is,
+  (
+    fits.0,
+    holds.sites ∙ ap option_to_list fits.1,
+    fits.2,
+    holds.starts ∙ ap option_to_list fits.3,
+    subst (λ (units : List unit.Unit). IfSome (named call) (λ inverter. inverter < length units)) (sym holds.units) fits.4.0,
+    subst (λ (calls : List Call). last_moment fits.2 calls ≤ moment call) (sym holds.calls) fits.4.1,
+    subst (λ (calls : List Call). length calls < fits.0.room) (sym holds.calls) fits.4.2,
+  ),
+)
 
 pub place_fits : (script : Script) (before : List Line) (line : Line) → Holds before script → MayFollow before line → FitsIn script line
 place_fits script before (lines.Site site) holds may = list_none script.site (sym holds.sites ∙ may.1)
 place_fits script before (lines.Inverter unit) holds may = (may.1.0, list_some script.site may.1.0 (sym holds.sites ∙ may.1.1), list_none script.start (sym holds.starts ∙ may.1.2))
-place_fits script before (lines.Begin at) holds may =
-    (may.1.0, list_some script.site may.1.0 (sym holds.sites ∙ may.1.1), list_none script.start (sym holds.starts ∙ may.1.2),
-      subst (λ (units : List unit.Unit). IsOpenable (site_with may.1.0 units)) holds.units may.1.3)
-place_fits script before (lines.Call call) holds may =
-    (may.1.0, list_some script.site may.1.0 (sym holds.sites ∙ may.1.1), may.1.2, list_some script.start may.1.2 (sym holds.starts ∙ may.1.3),
-      (subst (λ (units : List unit.Unit). IfSome (named call) (λ inverter. inverter < length units)) holds.units may.1.4,
-       subst (λ (calls : List Call). last_moment may.1.2 calls ≤ moment call) holds.calls may.1.5,
-       subst (λ (calls : List Call). length calls < may.1.0.room) holds.calls may.1.6))
+place_fits script before (lines.Begin at) holds may = (
+  may.1.0,
+  list_some script.site may.1.0 (sym holds.sites ∙ may.1.1),
+  list_none script.start (sym holds.starts ∙ may.1.2),
+  subst (λ (units : List unit.Unit). IsOpenable (site_with may.1.0 units)) holds.units may.1.3,
+)
+place_fits script before (lines.Call call) holds may = (
+  may.1.0,
+  list_some script.site may.1.0 (sym holds.sites ∙ may.1.1),
+  may.1.2,
+  list_some script.start may.1.2 (sym holds.starts ∙ may.1.3),
+  (
+    subst (λ (units : List unit.Unit). IfSome (named call) (λ inverter. inverter < length units)) holds.units may.1.4,
+    subst (λ (calls : List Call). last_moment may.1.2 calls ≤ moment call) holds.calls may.1.5,
+    subst (λ (calls : List Call). length calls < may.1.0.room) holds.calls may.1.6,
+  ),
+)
 
 -- a line that doesn't go in is the only one at the front of the bytes
 pub takes_none : (script : Script) (bytes rest : List ℕ) (line : Line) → IsLine line → bytes ≡ line_text line ++ rest → (FitsIn script line → ⊥) → TakesNone script bytes
@@ -66,25 +88,32 @@ inverter_fits script line site unit is e s = (λ _. subst (λ (x : Line). FitsIn
 pub begin_fits : (script : Script) (line : Line) (site : site_line.SiteLine) (at : ℕ) (units : List unit.Unit) (test : Bool) → line ≡ lines.Begin at → script.site ≡ Some site → script.start ≡ None → units ≡ script.units.items
     → (IsTrue test → IsOpenable (site_with site units)) × (IsOpenable (site_with site units) → IsTrue test)
     → (IsTrue test → FitsIn script line) × (FitsIn script line → IsTrue test)
-begin_fits script line site at units test is e s u tests =
-    (λ yes. subst (λ (x : Line). FitsIn script x) (sym is) (site, e, s, subst (λ (us : List unit.Unit). IsOpenable (site_with site us)) u (tests.0 yes)),
-     λ fits. let fits' : FitsIn script (lines.Begin at) = subst (λ (x : Line). FitsIn script x) is fits in
-       let same : fits'.0 ≡ site = some_is fits'.0 site (sym fits'.1 ∙ e) in
-       tests.1 (subst (λ (us : List unit.Unit). IsOpenable (site_with site us)) (sym u) (subst (λ (x : site_line.SiteLine). IsOpenable (site_with x script.units.items)) same fits'.3)))
+begin_fits script line site at units test is e s u tests = (
+  λ yes. subst (λ (x : Line). FitsIn script x) (sym is) (site, e, s, subst (λ (us : List unit.Unit). IsOpenable (site_with site us)) u (tests.0 yes)),
+  λ fits. let fits' : FitsIn script (lines.Begin at) = subst (λ (x : Line). FitsIn script x) is fits in
+      let same : fits'.0 ≡ site = some_is fits'.0 site (sym fits'.1 ∙ e) in
+      tests.1 (subst (λ (us : List unit.Unit). IsOpenable (site_with site us)) (sym u) (subst (λ (x : site_line.SiteLine). IsOpenable (site_with x script.units.items)) same fits'.3)),
+)
 
 pub call_fits : (script : Script) (line : Line) (site : site_line.SiteLine) (start : ℕ) (call : Call) (units : ℕ) (calls : List Call) (test : Bool)
     → line ≡ lines.Call call → script.site ≡ Some site → script.start ≡ Some start → units ≡ length script.units.items → calls ≡ script.calls.items
     → (IsTrue test → IsNextCall site.room units start calls call) × (IsNextCall site.room units start calls call → IsTrue test)
     → (IsTrue test → FitsIn script line) × (FitsIn script line → IsTrue test)
-call_fits script line site start call units calls test is e s u cs tests =
-    (λ yes. subst (λ (x : Line). FitsIn script x) (sym is) (site, e, start, s,
-        subst (λ (n : ℕ). IsNextCall site.room n start script.calls.items call) u (subst (λ (x : List Call). IsNextCall site.room units start x call) cs (tests.0 yes))),
-     λ fits. let fits' : FitsIn script (lines.Call call) = subst (λ (x : Line). FitsIn script x) is fits in
-       let site-is : fits'.0 ≡ site = some_is fits'.0 site (sym fits'.1 ∙ e) in
-       let start-is : fits'.2 ≡ start = some_is fits'.2 start (sym fits'.3 ∙ s) in
-       let next : IsNextCall site.room (length script.units.items) start script.calls.items call = subst (λ (x : site_line.SiteLine). IsNextCall x.room (length script.units.items) start script.calls.items call) site-is
-         (subst (λ (n : ℕ). IsNextCall fits'.0.room (length script.units.items) n script.calls.items call) start-is fits'.4) in
-       tests.1 (subst (λ (n : ℕ). IsNextCall site.room n start calls call) (sym u) (subst (λ (x : List Call). IsNextCall site.room (length script.units.items) start x call) (sym cs) next)))
+call_fits script line site start call units calls test is e s u cs tests = (
+  λ yes. subst (λ (x : Line). FitsIn script x) (sym is) (
+    site,
+    e,
+    start,
+    s,
+    subst (λ (n : ℕ). IsNextCall site.room n start script.calls.items call) u (subst (λ (x : List Call). IsNextCall site.room units start x call) cs (tests.0 yes)),
+  ),
+  λ fits. let fits' : FitsIn script (lines.Call call) = subst (λ (x : Line). FitsIn script x) is fits in
+      let site-is : fits'.0 ≡ site = some_is fits'.0 site (sym fits'.1 ∙ e) in
+      let start-is : fits'.2 ≡ start = some_is fits'.2 start (sym fits'.3 ∙ s) in
+      let next : IsNextCall site.room (length script.units.items) start script.calls.items call = subst (λ (x : site_line.SiteLine). IsNextCall x.room (length script.units.items) start script.calls.items call) site-is
+      (subst (λ (n : ℕ). IsNextCall fits'.0.room (length script.units.items) n script.calls.items call) start-is fits'.4) in
+      tests.1 (subst (λ (n : ℕ). IsNextCall site.room n start calls call) (sym u) (subst (λ (x : List Call). IsNextCall site.room (length script.units.items) start x call) (sym cs) next)),
+)
 
 -- ---- what `is_openable` and `last_moment` compute
 
@@ -92,9 +121,10 @@ pub openable : (site : site_line.SiteLine) (units : List unit.Unit) (floors : �
     → floors ≡ sum_below (length units) (λ inverter. option_map_or (λ unit. mw unit.rating unit.floor) (slice_get units inverter) 0)
     → (floors ≤ site.cap → IsOpenable (site_with site units)) × (IsOpenable (site_with site units) → floors ≤ site.cap)
 unfolding floor_at
-openable site units floors some few sum =
-    (λ le. record { checked = record { cap = site.cap_high; room_low = site.room_low; room_high = site.room_high; units = omega (arith, few) }; some = some; few = few; floors = rw (← sum) le },
-     λ is. rw sum is.floors)
+openable site units floors some few sum = (
+  λ le. record { checked = record { cap = site.cap_high; room_low = site.room_low; room_high = site.room_high; units = omega (arith, few) }; some = some; few = few; floors = rw (← sum) le },
+  λ is. rw sum is.floors,
+)
 
 pub last_at : (calls : List Call) (start : ℕ) (d : Call) → 1 ≤ length calls → last_moment start calls ≡ moment (get_or calls (length calls - 1) d)
 unfolding last_moment

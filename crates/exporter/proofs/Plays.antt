@@ -80,10 +80,13 @@ next_fits acc later call site start units may whole =
     let start-is : place.2 ≡ start = one_front (starts_of acc) place.2 start (starts_of later) place.3 (sym (flat_map-append start_on acc later) ∙ whole.starts) in
     let few : length (units_of acc) ≤ units = omega (arith, whole.count, ap length (flat_map-append unit_on acc later), length-append (units_of acc) (units_of later)) in
     record {
-      built = may.0.0; moment_high = may.0.2;
-      next = (below_more (named call) (length (units_of acc)) units few place.4,
+      built = may.0.0;
+      moment_high = may.0.2;
+      next = (
+        below_more (named call) (length (units_of acc)) units few place.4,
         subst (λ (n : ℕ). last_moment n (calls_of acc) ≤ moment call) start-is place.5,
-        subst (λ (x : site_line.SiteLine). length (calls_of acc) < x.room) site-is place.6);
+        subst (λ (x : site_line.SiteLine). length (calls_of acc) < x.room) site-is place.6,
+      );
     }
 
 on_line : (acc : List Line) (line : Line) (later : List Line) (site : site_line.SiteLine) (start units : ℕ) → MayFollow acc line → Whole (acc ++ line ∷ later) site start units
@@ -91,15 +94,16 @@ on_line : (acc : List Line) (line : Line) (later : List Line) (site : site_line.
 on_line acc (lines.Site x) later site start units may whole fits = subst (λ (xs : List Call). EachFits site.room units start xs (calls_of later)) (kept_by call_on acc (lines.Site x) refl) fits
 on_line acc (lines.Inverter x) later site start units may whole fits = subst (λ (xs : List Call). EachFits site.room units start xs (calls_of later)) (kept_by call_on acc (lines.Inverter x) refl) fits
 on_line acc (lines.Begin x) later site start units may whole fits = subst (λ (xs : List Call). EachFits site.room units start xs (calls_of later)) (kept_by call_on acc (lines.Begin x) refl) fits
-on_line acc (lines.Call call) later site start units may whole fits =
-    (next_fits acc (lines.Call call ∷ later) call site start units may whole,
-     subst (λ (xs : List Call). EachFits site.room units start xs (calls_of later)) (pushed call_on acc (lines.Call call)) fits)
+on_line acc (lines.Call call) later site start units may whole fits = (
+  next_fits acc (lines.Call call ∷ later) call site start units may whole,
+  subst (λ (xs : List Call). EachFits site.room units start xs (calls_of later)) (pushed call_on acc (lines.Call call)) fits,
+)
 
 each_fits : (acc later : List Line) (site : site_line.SiteLine) (start units : ℕ) → EachMayFollow acc later → Whole (acc ++ later) site start units → EachFits site.room units start (calls_of acc) (calls_of later)
 each_fits acc [] site start units form whole = tt
 each_fits acc (line ∷ later) site start units form whole =
     on_line acc line later site start units form.0 whole
-      (each_fits (acc ++ line ∷ []) later site start units form.1 (subst (λ (xs : List Line). Whole xs site start units) (sym (append_assoc acc (line ∷ []) later)) whole))
+    (each_fits (acc ++ line ∷ []) later site start units form.1 (subst (λ (xs : List Line). Whole xs site start units) (sym (append_assoc acc (line ∷ []) later)) whole))
 
 -- ---- where a book was begun, it can be opened
 
@@ -157,5 +161,5 @@ playable bytes script s =
       start_high = b.high;
       openable = subst (λ (us : List unit.Unit). IsOpenable (site_with b.site us)) s.held.units b.openable;
       calls = subst (λ (cs : List Call). EachFits b.site.room (length script.units.items) start.0 [] cs) s.held.calls
-        (each_fits [] s.lines b.site start.0 (length script.units.items) s.is_script.form (record { sites = b.sites; starts = start.1; count = ap length s.held.units }));
+          (each_fits [] s.lines b.site start.0 (length script.units.items) s.is_script.form (record { sites = b.sites; starts = start.1; count = ap length s.held.units }));
     }

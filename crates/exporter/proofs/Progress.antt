@@ -40,7 +40,7 @@ begins bytes script held = record { before = []; spelled = refl; form = tt; held
 pub goes_on : (bytes rest rest' : List ℕ) (old new : Script) (number : ℕ) → Progress bytes rest old number → TakesLine old new rest rest' → Progress bytes rest' new (number + 1)
 goes_on bytes rest rest' old new number p t =
     let text : lines_text (p.before ++ t.line ∷ []) ≡ lines_text p.before ++ line_text t.line =
-      flat_map-append line_text p.before (t.line ∷ []) ∙ ap (λ (x : List ℕ). lines_text p.before ++ x) (append-nil (line_text t.line)) in
+    flat_map-append line_text p.before (t.line ∷ []) ∙ ap (λ (x : List ℕ). lines_text p.before ++ x) (append-nil (line_text t.line)) in
     record {
       before = p.before ++ t.line ∷ [];
       spelled = p.spelled ∙ ap (λ (x : List ℕ). lines_text p.before ++ x) t.spelled ∙ sym (append_assoc (lines_text p.before) (line_text t.line) rest') ∙ ap (λ (x : List ℕ). x ++ rest') (sym text);
@@ -53,7 +53,10 @@ goes_on bytes rest rest' old new number p t =
 pub stops : (fault : ScriptFault) (bytes rest : List ℕ) (script : Script) (number : ℕ) → Progress bytes rest script number → 1 ≤ length rest → Stops fault number script rest → Explains fault bytes
 stops faults.NoMemory bytes rest script number p some s = tt
 stops (faults.BadLine line) bytes rest script number p some s = record {
-  before = p.before; rest = rest; spelled = p.spelled; form = p.form;
+  before = p.before;
+  rest = rest;
+  spelled = p.spelled;
+  form = p.form;
   leaves = s.1 p.before p.held;
   unfinished = λ none begun. omega (arith, some, ap length none);
   counted = s.0 ∙ p.counted;
@@ -67,7 +70,10 @@ no_start before script held none begun =
 
 pub ends_early : (bytes rest : List ℕ) (script : Script) (number : ℕ) → Progress bytes rest script number → length rest ≡ 0 → script.start ≡ None → LeavesFormAt bytes number
 ends_early bytes rest script number p nil none = record {
-  before = p.before; rest = rest; spelled = p.spelled; form = p.form;
+  before = p.before;
+  rest = rest;
+  spelled = p.spelled;
+  form = p.form;
   leaves = λ line more may e. omega (arith, nil, line_long line rest more e);
   unfinished = λ _ begun. no_start p.before script p.held none begun;
   counted = p.counted;

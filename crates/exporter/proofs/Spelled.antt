@@ -64,7 +64,7 @@ link_takes bytes x e =
     let at = number_takes 32 bytes a.0.0 a.0.1 a.1 in
     let inverter = number_takes 10 a.0.1 b.0.0 b.0.1 b.1 in
     made (codes "link ") bytes (fields.Link a.0.0 b.0.0, b.0.1) x b.2 (ap (λ (y : List ℕ). codes "link " ++ y)
-      (join bytes (decimal a.0.0) a.0.1 (decimal b.0.0 ++ 10 ∷ []) b.0.1 32 at.parts (ended a.0.1 (decimal b.0.0) b.0.1 10 inverter.parts)))
+    (join bytes (decimal a.0.0) a.0.1 (decimal b.0.0 ++ 10 ∷ []) b.0.1 32 at.parts (ended a.0.1 (decimal b.0.0) b.0.1 10 inverter.parts)))
 
 ask_takes : TakesBehind (codes "ask ") ask_at
 unfolding ask_at
@@ -86,9 +86,9 @@ after_is : (text bytes rest : List ℕ) → after text bytes ≡ Some rest → b
 after_is text bytes rest e =
     elim (chosen (bytes_eq (take (length text) bytes) text) (Some (drop (length text) bytes)) None (Some rest) e) [
       | inl is ↦
-        let front : take (length text) bytes ≡ text = (bytes_eq-Decides (take (length text) bytes) text).0 is.0 in
-        let back : drop (length text) bytes ≡ rest = some_is (drop (length text) bytes) rest is.1 in
-        sym (take-append-drop (length text) bytes) ∙ rw (front, back) refl
+          let front : take (length text) bytes ≡ text = (bytes_eq-Decides (take (length text) bytes) text).0 is.0 in
+          let back : drop (length text) bytes ≡ rest = some_is (drop (length text) bytes) rest is.1 in
+          sym (take-append-drop (length text) bytes) ∙ rw (front, back) refl
       | inr not ↦ absurd cc
     ]
 
@@ -104,8 +104,8 @@ negative_is size z e =
     elim (chosen (eqb size 0 || ltb 32768 size) None (Some (negsuc (size - 1))) (Some z) e) [
       | inl bad ↦ absurd cc
       | inr good ↦
-        let some_size : suc (size - 1) ≡ size = grind (arith, nat_tests, good.0) in
-        rw (← some_is (negsuc (size - 1)) z good.1, some_size) refl
+          let some_size : suc (size - 1) ≡ size = grind (arith, nat_tests, good.0) in
+          rw (← some_is (negsuc (size - 1)) z good.1, some_size) refl
     ]
 
 positive_is : (size : ℕ) (z : ℤ) → positive size ≡ Some z → signed_decimal z ≡ decimal size
@@ -120,21 +120,21 @@ unfolding signed_at negative_at positive_at
 signed_takes end bytes z rest e =
     elim (behind_is (after (codes "-") bytes) (negative_at end) (positive_at end bytes) (z, rest) e) [
       | inl below ↦
-        let a = bind_some (number_at end below.0) _ (z, rest) below.2 in
-        let b = bind_some (negative a.0.0) (λ number. Some (number, a.0.1)) (z, rest) a.2 in
-        let n = number_takes end below.0 a.0.0 a.0.1 a.1 in
-        let same = some_is (b.0, a.0.1) (z, rest) b.2 in
-        let spelled : signed_decimal z ≡ 45 ∷ decimal a.0.0 = ap (λ (p : ℤ × List ℕ). signed_decimal p.0) (sym same) ∙ negative_is a.0.0 b.0 b.1 in
-        let rest-is : a.0.1 ≡ rest = ap (λ (p : ℤ × List ℕ). p.1) same in
-        after_is (codes "-") bytes below.0 below.1 ∙ ap (λ (x : List ℕ). 45 ∷ x) n.parts ∙ same_parts (45 ∷ decimal a.0.0) (signed_decimal z) a.0.1 rest end (sym spelled) rest-is
+          let a = bind_some (number_at end below.0) _ (z, rest) below.2 in
+          let b = bind_some (negative a.0.0) (λ number. Some (number, a.0.1)) (z, rest) a.2 in
+          let n = number_takes end below.0 a.0.0 a.0.1 a.1 in
+          let same = some_is (b.0, a.0.1) (z, rest) b.2 in
+          let spelled : signed_decimal z ≡ 45 ∷ decimal a.0.0 = ap (λ (p : ℤ × List ℕ). signed_decimal p.0) (sym same) ∙ negative_is a.0.0 b.0 b.1 in
+          let rest-is : a.0.1 ≡ rest = ap (λ (p : ℤ × List ℕ). p.1) same in
+          after_is (codes "-") bytes below.0 below.1 ∙ ap (λ (x : List ℕ). 45 ∷ x) n.parts ∙ same_parts (45 ∷ decimal a.0.0) (signed_decimal z) a.0.1 rest end (sym spelled) rest-is
       | inr above ↦
-        let a = bind_some (number_at end bytes) _ (z, rest) above in
-        let b = bind_some (positive a.0.0) (λ number. Some (number, a.0.1)) (z, rest) a.2 in
-        let n = number_takes end bytes a.0.0 a.0.1 a.1 in
-        let same = some_is (b.0, a.0.1) (z, rest) b.2 in
-        let spelled : signed_decimal z ≡ decimal a.0.0 = ap (λ (p : ℤ × List ℕ). signed_decimal p.0) (sym same) ∙ positive_is a.0.0 b.0 b.1 in
-        let rest-is : a.0.1 ≡ rest = ap (λ (p : ℤ × List ℕ). p.1) same in
-        n.parts ∙ same_parts (decimal a.0.0) (signed_decimal z) a.0.1 rest end (sym spelled) rest-is
+          let a = bind_some (number_at end bytes) _ (z, rest) above in
+          let b = bind_some (positive a.0.0) (λ number. Some (number, a.0.1)) (z, rest) a.2 in
+          let n = number_takes end bytes a.0.0 a.0.1 a.1 in
+          let same = some_is (b.0, a.0.1) (z, rest) b.2 in
+          let spelled : signed_decimal z ≡ decimal a.0.0 = ap (λ (p : ℤ × List ℕ). signed_decimal p.0) (sym same) ∙ positive_is a.0.0 b.0 b.1 in
+          let rest-is : a.0.1 ≡ rest = ap (λ (p : ℤ × List ℕ). p.1) same in
+          n.parts ∙ same_parts (decimal a.0.0) (signed_decimal z) a.0.1 rest end (sym spelled) rest-is
     ]
 
 inverter_takes : TakesBehind (codes "inverter ") inverter_at
@@ -180,15 +180,21 @@ pub fields_take : (bytes : List ℕ) (x : Fields × List ℕ) → fields_at byte
 unfolding fields_at
 fields_take bytes x e =
     elim (behind_is (after (codes "tick ") bytes) tick_at _ x e) [
-    | inl at ↦ after_is (codes "tick ") bytes at.0 at.1 ∙ tick_takes at.0 x at.2
-    | inr e1 ↦ elim (behind_is (after (codes "ask ") bytes) ask_at _ x e1) [
-    | inl at ↦ after_is (codes "ask ") bytes at.0 at.1 ∙ ask_takes at.0 x at.2
-    | inr e2 ↦ elim (behind_is (after (codes "link ") bytes) link_at _ x e2) [
-    | inl at ↦ after_is (codes "link ") bytes at.0 at.1 ∙ link_takes at.0 x at.2
-    | inr e3 ↦ elim (behind_is (after (codes "inverter ") bytes) inverter_at _ x e3) [
-    | inl at ↦ after_is (codes "inverter ") bytes at.0 at.1 ∙ inverter_takes at.0 x at.2
-    | inr e4 ↦ elim (behind_is (after (codes "site ") bytes) site_at _ x e4) [
-    | inl at ↦ after_is (codes "site ") bytes at.0 at.1 ∙ site_takes at.0 x at.2
-    | inr e5 ↦ elim (behind_is (after (codes "begin ") bytes) begin_at None x e5) [
-    | inl at ↦ after_is (codes "begin ") bytes at.0 at.1 ∙ begin_takes at.0 x at.2
-    | inr none ↦ absurd cc ] ] ] ] ] ]
+      | inl at ↦ after_is (codes "tick ") bytes at.0 at.1 ∙ tick_takes at.0 x at.2
+      | inr e1 ↦ elim (behind_is (after (codes "ask ") bytes) ask_at _ x e1) [
+        | inl at ↦ after_is (codes "ask ") bytes at.0 at.1 ∙ ask_takes at.0 x at.2
+        | inr e2 ↦ elim (behind_is (after (codes "link ") bytes) link_at _ x e2) [
+          | inl at ↦ after_is (codes "link ") bytes at.0 at.1 ∙ link_takes at.0 x at.2
+          | inr e3 ↦ elim (behind_is (after (codes "inverter ") bytes) inverter_at _ x e3) [
+            | inl at ↦ after_is (codes "inverter ") bytes at.0 at.1 ∙ inverter_takes at.0 x at.2
+            | inr e4 ↦ elim (behind_is (after (codes "site ") bytes) site_at _ x e4) [
+              | inl at ↦ after_is (codes "site ") bytes at.0 at.1 ∙ site_takes at.0 x at.2
+              | inr e5 ↦ elim (behind_is (after (codes "begin ") bytes) begin_at None x e5) [
+                | inl at ↦ after_is (codes "begin ") bytes at.0 at.1 ∙ begin_takes at.0 x at.2
+                | inr none ↦ absurd cc
+              ]
+            ]
+          ]
+        ]
+      ]
+    ]

@@ -16,10 +16,11 @@ appends_then (Some a) (Some b) (Some c) xs ys p q = q ∙ ap (λ (t : List ℕ).
 
 pub front_more : (a b c : Option (List ℕ)) (bytes rest : List ℕ) (k n : ℕ) → rest ≡ drop k bytes → Appends a b (take k bytes) → Appends b c (take n rest) → n ≤ length rest
     → (x : ℕ) × (take (length rest - n) (drop n rest) ≡ drop x bytes) × Appends a c (take x bytes)
-front_more a b c bytes rest k n is p q le =
-    (k + n,
-     take_all (length rest - n) (drop n rest) (omega (arith, length-drop n rest)) ∙ ap (λ (t : List ℕ). drop n t) is ∙ drop-drop n k bytes,
-     subst (λ (t : List ℕ). Appends a c t) (ap (λ (t : List ℕ). take k bytes ++ take n t) is ∙ sym (take-add k n bytes)) (appends_then a b c (take k bytes) (take n rest) p q))
+front_more a b c bytes rest k n is p q le = (
+  k + n,
+  take_all (length rest - n) (drop n rest) (omega (arith, length-drop n rest)) ∙ ap (λ (t : List ℕ). drop n t) is ∙ drop-drop n k bytes,
+  subst (λ (t : List ℕ). Appends a c t) (ap (λ (t : List ℕ). take k bytes ++ take n t) is ∙ sym (take-add k n bytes)) (appends_then a b c (take k bytes) (take n rest) p q),
+)
 
 pub entry_more : (entries : List Entry) (k : ℕ) (entry : Entry) (old text new : List ℕ) → text ≡ old ++ flat_map entry_text (take k entries) → slice_get entries k ≡ Some entry → new ≡ text ++ entry_text entry
     → new ≡ old ++ flat_map entry_text (take (k + 1) entries)

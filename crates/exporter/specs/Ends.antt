@@ -33,12 +33,17 @@ EndsBy ends.Done before now told = ⊥
 EndsBy ends.BadWords before now told = ⊥
 EndsBy ends.WriteFault before now told = ⊥
 
--- The known bytes of the output after this end: at the end Done a text of a replay behind those before, at
--- WriteFault a front of one, and at every other end those before.
+-- what the known bytes of the output gained: at the end Done such a text, and at WriteFault a front of one
 abbrev pub Gains : Ended → Option (List ℕ) → Option (List ℕ) → (List ℕ → Type 0) → Type 0
 Gains ends.Done old new IsText = (text : List ℕ) × IsText text × Appends old new text
 Gains ends.WriteFault old new IsText = (text : List ℕ) × IsText text × AppendsFront old new text
-Gains _ old new IsText = Keeps old new
+Gains _ old new IsText = Unit {0}
+
+-- the known bytes of the output are those before, unless all or a front of a text was written
+abbrev pub GainsNothing : Ended → Option (List ℕ) → Option (List ℕ) → Type 0
+GainsNothing ends.Done old new = Unit {0}
+GainsNothing ends.WriteFault old new = Unit {0}
+GainsNothing _ old new = Keeps old new
 
 -- the end is Done or want of memory
 abbrev pub IsDoneOrShort : Ended → Type 0

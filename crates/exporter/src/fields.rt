@@ -75,7 +75,15 @@ fn inverter(bytes: &[u8]) -> Option<(Fields, &[u8])>
     let (wsf, rest) = signed(rest, SPACE)?;
     let (psf, rest) = signed(rest, SPACE)?;
     let (floor, rest) = number(rest, LINE_END)?;
-    Some((Fields::Inverter { wmax, wsf, psf, floor }, rest))
+    Some((
+        Fields::Inverter {
+            wmax,
+            wsf,
+            psf,
+            floor,
+        },
+        rest,
+    ))
 }
 
 #[tactic(auto, unfolding(crate::specs::Reading::begin_at))]

@@ -36,7 +36,9 @@ pub fn read_whole<S: Source>(alloc: Global, source: &mut S) -> Result<Vec<u8>, I
         if bytes.len() + count > INPUT_MAX as usize {
             return Err(InputFault::TooLong);
         }
-        bytes.extend_from_slice(&chunk[..count]).map_err(|_| InputFault::NoMemory)?;
+        bytes
+            .extend_from_slice(&chunk[..count])
+            .map_err(|_| InputFault::NoMemory)?;
     }
     unreachable!()
 }

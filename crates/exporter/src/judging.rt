@@ -93,10 +93,21 @@ fn judge(numbers: Fields) -> Option<Line>
     ensures { Judges result numbers }
 {
     match numbers {
-        Fields::Site { cap, send, delay, timer, per_mille, slack, room } => {
-            judge_site(cap, rules(send, delay, timer, per_mille, slack)?, room)
-        }
-        Fields::Inverter { wmax, wsf, psf, floor } => judge_inverter(wmax, wsf, psf, floor),
+        Fields::Site {
+            cap,
+            send,
+            delay,
+            timer,
+            per_mille,
+            slack,
+            room,
+        } => { judge_site(cap, rules(send, delay, timer, per_mille, slack)?, room) }
+        Fields::Inverter {
+            wmax,
+            wsf,
+            psf,
+            floor,
+        } => judge_inverter(wmax, wsf, psf, floor),
         Fields::Begin { at } => judge_begin(at),
         Fields::Link { at, inverter } => judge_link(at, inverter),
         Fields::Ask { at, inverter, raw } => judge_ask(at, inverter, raw),

@@ -8,6 +8,7 @@ mod ended;
 mod fields;
 mod input;
 mod judging;
+mod laws;
 mod line;
 mod number;
 mod output;
@@ -20,9 +21,8 @@ mod text;
 use crate::ended::{Ended, status};
 use crate::plain::plain;
 use crate::real::{Input, Output};
-use std::env;
-use std::io;
 use std::process::ExitCode;
+use std::{env, io};
 
 /// The words of the command line behind the name of the program.
 fn words(rt: &HostRuntime) -> io::Result<Vec<String>> {

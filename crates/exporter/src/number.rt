@@ -21,7 +21,9 @@ fn digits(bytes: &[u8], end: u8, first: u64) -> Option<(u64, &[u8])>
         if *byte < b'0' || *byte > b'9' {
             return None;
         }
-        number = number.checked_mul(10)?.checked_add(u64::from(*byte - b'0'))?;
+        number = number
+            .checked_mul(10)?
+            .checked_add(u64::from(*byte - b'0'))?;
     }
     None
 }

@@ -5,7 +5,7 @@ ghost use Rattle.world_traits.specs.Causes.{Rose};
 ghost use Rattle.exporter.specs.declared.line.Line.{Line};
 ghost use Rattle.exporter.specs.Script.{IsScript, LeavesFormAt};
 ghost use Rattle.exporter.specs.Replay.{IsReplay};
-ghost use Rattle.exporter.specs.Ends.{AreReplay, EndsBy, EndsScript, Gains, IsDoneOrShort};
+ghost use Rattle.exporter.specs.Ends.{AreReplay, EndsBy, EndsScript, Gains, GainsNothing, IsDoneOrShort};
 
 use crate::ended::{Ended, LineKind};
 use crate::input::{INPUT_MAX, InputFault, read_whole};
@@ -67,7 +67,12 @@ fn replay<S: Source>(alloc: Global, input: &mut S) -> Result<String, Ended>
 
 /// Does what the words of the command line ask for, with an input and an output. `replay` reads a script to its
 /// end, keeps its book, and writes the text of the book.
-pub fn plain<S: Source, O: Sink>(alloc: Global, words: &Vec<String>, input: &mut S, out: &mut O) -> Ended
+pub fn plain<S: Source, O: Sink>(
+    alloc: Global,
+    words: &Vec<String>,
+    input: &mut S,
+    out: &mut O,
+) -> Ended
     // The words, the input and the output are at fault exactly so.
     ensures bad_words { result ≡ Ended.BadWords ↔ (AreReplay (map string_bytes words.now.items) → ⊥) }
     ensures bad_line { (line : ℕ) (kind : LineKind) → result ≡ Ended.BadLine line kind
@@ -78,10 +83,11 @@ pub fn plain<S: Source, O: Sink>(alloc: Global, words: &Vec<String>, input: &mut
     ensures read_faults_stay { S.faults input.old ≤ S.faults input.new }
     ensures write_faults_stay { O.faults out.old ≤ O.faults out.new }
 
-    // At Done the input was read to its end. The output gained the text of its replay, at WriteFault a front of
-    // that, and at every other end nothing.
+    // At Done the input was read to its end, and the output gained the text of its replay; at WriteFault it gained
+    // a front of that text, and at every other end nothing.
     ensures read { result ≡ Ended.Done → IsAtEnd (S.left input.new) }
     ensures gained { IfSome (S.left input.old) (λ bytes. Gains result (O.taken out.old) (O.taken out.new) (IsReplay bytes)) }
+    ensures nothing { GainsNothing result (O.taken out.old) (O.taken out.new) }
 
     // A script is replayed, unless memory runs out, or the input or the output fails.
     ensures complete { AreReplay (map string_bytes words.now.items) → IfSome (S.left input.old) (λ bytes. length bytes ≤ 134217728

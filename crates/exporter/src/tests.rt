@@ -19,17 +19,19 @@ const RAISE: (&str, &str) = ("ask 66701 0 1000", "granted 1 1");
 /// What `plain` answers to a script, and what it writes. The calls of these numbers fail.
 fn run(
     alloc: Global,
-    word: &str,
+    words: &[&str],
     script: &str,
     reads: &[u32],
     writes: &[u32],
 ) -> Result<(Ended, BytesSink), Fail> {
-    let mut words = Vec::new(alloc);
-    words.push(String::from_str(alloc, word)?)?;
+    let mut owned = Vec::new(alloc);
+    for word in words {
+        owned.push(String::from_str(alloc, word)?)?;
+    }
     let bytes = Vec::from_slice(alloc, script.as_bytes())?;
     let mut input = BytesSource::new(bytes, Vec::from_slice(alloc, reads)?);
     let mut output = BytesSink::new(alloc, Vec::from_slice(alloc, writes)?);
-    let ended = plain(alloc, &words, &mut input, &mut output);
+    let ended = plain(alloc, &owned, &mut input, &mut output);
     Ok((ended, output))
 }
 
@@ -48,7 +50,7 @@ fn replays(rt: &impl Abort, alloc: Global, calls: &[&[(&str, &str)]]) -> Result<
     for part in calls {
         add(&mut script, &mut book, part)?;
     }
-    let (ended, output) = run(alloc, "replay", script.as_str(), &[], &[])?;
+    let (ended, output) = run(alloc, &["replay"], script.as_str(), &[], &[])?;
     assert_eq!(rt; ended, Ended::Done);
     assert_eq!(rt; output.taken(), book.as_bytes());
     Ok(())
@@ -87,12 +89,8 @@ fn the_33rd_live_write_is_crowded(rt: HostRuntime) -> Result<(), Fail> {
         write!(script, "ask {at} 0 100\n")?;
         write!(book, "ask {at} 0 100 = granted 1 {number}\n")?;
     }
-    add(
-        &mut script,
-        &mut book,
-        &[("ask 66733 0 100", "crowded")],
-    )?;
-    let (ended, output) = run(rt.alloc(), "replay", script.as_str(), &[], &[])?;
+    add(&mut script, &mut book, &[("ask 66733 0 100", "crowded")])?;
+    let (ended, output) = run(rt.alloc(), &["replay"], script.as_str(), &[], &[])?;
     assert_eq!(rt; ended, Ended::Done);
     assert_eq!(rt; output.taken(), book.as_bytes());
     Ok(())
@@ -102,7 +100,11 @@ fn the_33rd_live_write_is_crowded(rt: HostRuntime) -> Result<(), Fail> {
 fn a_bad_line_is_told_by_its_number(rt: HostRuntime) -> Result<(), Fail> {
     let rows = [
         ("", "", 1),
-        (HEAD, "link 0 0\nlink 0 1\nask 66701 0 1000\nread 70000 0\n", 8),
+        (
+            HEAD,
+            "link 0 0\nlink 0 1\nask 66701 0 1000\nread 70000 0\n",
+            8,
+        ),
         (
             "site 10000000 1000 4000 60 20 500 open 3\ninverter 6000 0 -1 100\ninverter 6000 0 -1 100\nbegin 0\n",
             "tick 0\ntick 0\ntick 0\ntick 0\n",
@@ -122,7 +124,7 @@ fn a_bad_line_is_told_by_its_number(rt: HostRuntime) -> Result<(), Fail> {
     ];
     for (head, calls, line) in rows {
         let script = format!(in rt.alloc(); "{head}{calls}")?;
-        let (ended, output) = run(rt.alloc(), "replay", script.as_str(), &[], &[])?;
+        let (ended, output) = run(rt.alloc(), &["replay"], script.as_str(), &[], &[])?;
         let kind = LineKind::Form;
         assert_eq!(rt; ended, Ended::BadLine { line, kind }, "{script}");
         assert_eq!(rt; status(&ended), 3);
@@ -134,17 +136,26 @@ fn a_bad_line_is_told_by_its_number(rt: HostRuntime) -> Result<(), Fail> {
 #[test]
 fn a_fault_of_the_input_or_the_output_ends_the_replay(rt: HostRuntime) -> Result<(), Fail> {
     for call in 0..2 {
-        let (ended, output) = run(rt.alloc(), "replay", HEAD, &[call], &[])?;
+        let (ended, output) = run(rt.alloc(), &["replay"], HEAD, &[call], &[])?;
         assert_eq!(rt; ended, Ended::ReadFault);
         assert_eq!(rt; status(&ended), 6);
         assert!(rt; output.taken().is_empty());
     }
-    let (ended, _) = run(rt.alloc(), "replay", HEAD, &[], &[0])?;
+    let (ended, _) = run(rt.alloc(), &["replay"], HEAD, &[], &[0])?;
     assert_eq!(rt; ended, Ended::WriteFault);
     assert_eq!(rt; status(&ended), 7);
-    let (ended, _) = run(rt.alloc(), "replays", HEAD, &[], &[])?;
-    assert_eq!(rt; ended, Ended::BadWords);
-    assert_eq!(rt; status(&ended), 2);
+    Ok(())
+}
+
+#[test]
+fn other_words_are_bad(rt: HostRuntime) -> Result<(), Fail> {
+    let rows: [&[&str]; 3] = [&[], &["replays"], &["replay", "x"]];
+    for words in rows {
+        let (ended, output) = run(rt.alloc(), words, HEAD, &[], &[])?;
+        assert_eq!(rt; ended, Ended::BadWords);
+        assert_eq!(rt; status(&ended), 2);
+        assert!(rt; output.taken().is_empty());
+    }
     Ok(())
 }
 

@@ -9,7 +9,6 @@ use plant_book::{Call, Entry, Policy, Reply, Site, Unit};
 use plant_ledger::Plant;
 use std::alloc::{AllocError, Global};
 
-
 /// Adds a call's words, each with a space behind it.
 fn put_call(text: &mut String, call: &Call) -> Result<(), AllocError>
     ensures { OnOk result (string_bytes text.new ≡ string_bytes text.old ++ opened (call_words call.now)) }
@@ -18,8 +17,18 @@ fn put_call(text: &mut String, call: &Call) -> Result<(), AllocError>
         Call::Link { at, inverter } => write!(text, "link {at} {inverter} "),
         Call::Ask { at, inverter, raw } => write!(text, "ask {at} {inverter} {raw} "),
         Call::Read { at, inverter } => write!(text, "read {at} {inverter} "),
-        Call::Saw { at, inverter, number, raw } => write!(text, "saw {at} {inverter} {number} {raw} "),
-        Call::Back { at, inverter, link, number } => write!(text, "back {at} {inverter} {link} {number} "),
+        Call::Saw {
+            at,
+            inverter,
+            number,
+            raw,
+        } => write!(text, "saw {at} {inverter} {number} {raw} "),
+        Call::Back {
+            at,
+            inverter,
+            link,
+            number,
+        } => write!(text, "back {at} {inverter} {link} {number} "),
         Call::Want { at, inverter, mw } => write!(text, "want {at} {inverter} {mw} "),
         Call::Tick { at } => write!(text, "tick {at} "),
         Call::Stop { at } => write!(text, "stop {at} "),

@@ -30,5 +30,5 @@ returns c =
     let per_mille : c.in_ok-per_mille.per_mille ≡ c.args.per_mille = search rules in
     let slack : c.in_ok-slack.slack ≡ c.args.slack = search rules in
     rw c.ok-6.ensures.value (checked c.new.result c.args.send c.args.delay c.args.timer c.args.per_mille c.args.slack
-      c.in_ok-send.send c.in_ok-delay.delay c.in_ok-timer.timer c.in_ok-per_mille.per_mille c.in_ok-slack.slack
-      send delay timer per_mille slack c.new.ensures.fault c.new.ensures.numbers)
+    c.in_ok-send.send c.in_ok-delay.delay c.in_ok-timer.timer c.in_ok-per_mille.per_mille c.in_ok-slack.slack
+    send delay timer per_mille slack c.new.ensures.fault c.new.ensures.numbers)
