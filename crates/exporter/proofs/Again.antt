@@ -1,8 +1,8 @@
 -- A line that is spelled is read again, whatever follows it; so bytes begin with one line at most.
-use Rattle.std.proofs.Common.{◌≡◌, ◌≢◌, ℕ, zero, suc, ◌+◌, ◌*◌, ◌-◌, ◌^◌, ◌<◌, ◌≤◌, Bool, true, false, cond, eqb, ltb, ◌||◌, ◌⊎◌, List, [], ◌∷◌, ◌++◌, length, get_or, take, drop, Option, Some, None, refl, sym, ap, subst, ◌∙◌, arith, rules, inl, inr, append_assoc, ℤ, pos, negsuc}
+use Rattle.std.proofs.Common.{◌≡◌, ℕ, suc, ◌-◌, ◌^◌, ◌<◌, ◌≤◌, List, [], ◌∷◌, ◌++◌, length, Some, None, refl, arith, append_assoc, ℤ, pos, negsuc}
 use Rattle.std.specs.Prelude.{codes, ◌≤ℤ◌}
 use Rattle.std.specs.Fmt.{decimal, signed_decimal}
-use Rattle.std.proofs.lemmas.Bool.{lt-ltb, le-ltb, eq-eqb, ne_eqb}
+use Rattle.std.proofs.lemmas.Bool.{le-ltb, ne_eqb}
 use Rattle.std.proofs.lemmas.Int.{ints}
 use Rattle.std.proofs.lemmas.Fmt.{decimal_nonempty, digits_decimal}
 use Rattle.plant_book.specs.declared.call.Call.TheVariants as calls
@@ -12,7 +12,7 @@ use Rattle.exporter.specs.declared.fields.Fields.{Fields}
 use Rattle.exporter.specs.declared.fields.Fields.TheVariants as fields
 use Rattle.exporter.specs.Text.{line_text}
 use Rattle.exporter.specs.Script.{IsLine}
-use Rattle.exporter.specs.Reading.{◌>>=◌, behind, after, number_at, negative, positive, negative_at, positive_at, signed_at, site_at, inverter_at, begin_at, link_at, ask_at, tick_at, fields_at, fields_of}
+use Rattle.exporter.specs.Reading.{after, negative_at, positive_at, signed_at, site_at, inverter_at, begin_at, link_at, ask_at, tick_at, fields_at, fields_of}
 use Rattle.exporter.proofs.Decimals.{IsDigits, own, number_again}
 
 space : 32 < 48

@@ -1,9 +1,9 @@
 -- A number that is read is the number that is spelled, and what is spelled is read.
-use Rattle.std.proofs.Common.{◌≡◌, ◌≢◌, ℕ, zero, suc, ◌+◌, ◌*◌, ◌-◌, ◌^◌, ◌<◌, ◌≤◌, Bool, true, false, cond, eqb, ltb, ◌||◌, ◌⊎◌, List, [], ◌∷◌, ◌++◌, length, get_or, Option, Some, None, refl, sym, ap, subst, ◌∙◌, arith, rules, inl, inr}
+use Rattle.std.proofs.Common.{◌≡◌, ℕ, ◌+◌, ◌*◌, ◌-◌, ◌^◌, ◌<◌, ◌≤◌, Bool, true, false, cond, eqb, ltb, ◌||◌, ◌⊎◌, List, [], ◌∷◌, ◌++◌, length, get_or, Option, Some, None, refl, sym, ap, ◌∙◌, arith, rules, inl, inr}
 use Rattle.std.specs.Fmt.{decimal}
-use Rattle.std.proofs.lemmas.Bool.{eqb-true, eqb-false, ltb-true, ltb-false, lt-ltb, le-ltb, eq-eqb, ne_eqb}
+use Rattle.std.proofs.lemmas.Bool.{eqb-true, ltb-true, lt-ltb, eq-eqb, ne_eqb}
 use Rattle.std.proofs.lemmas.Bool.Decides.{nat_tests, eqb_tells}
-use Rattle.std.proofs.lemmas.Str.Parse.{IsNumeralModel, IsDigitsTest, FoldsDigits, numerals_by_fold}
+use Rattle.std.proofs.lemmas.Str.Parse.{IsNumeralModel, numerals_by_fold}
 use Rattle.std.proofs.lemmas.Fmt.{decimal_digit, decimal_nonempty, first_decimal, digits_decimal, digits_value-decimal, decimal-digits_value}
 use Rattle.exporter.specs.Reading.{digits_at, end_at, number_at}
 
@@ -57,7 +57,7 @@ digits_take (c ∷ cs) end number n rest small e =
           let n-is : number ≡ n = ap (λ (p : ℕ × List ℕ). p.0) same in
           let rest-is : cs ≡ rest = ap (λ (p : ℕ × List ℕ). p.1) same in
           let end-is : c ≡ end = eqb-true c end is.0 in
-          record { ds = []; parts = cc; digits = tt; value = sym n-is; small = rw (← n-is) small }
+          record { ds = []; parts = λ i. end-is i ∷ rest-is i; digits = tt; value = sym n-is; small = rw (← n-is) small }
       | inr not ↦
           elim (chosen (ltb c 48 || ltb 57 c) None (cond (ltb (number * 10 + (c - 48)) (2 ^ 64)) (digits_at end (number * 10 + (c - 48)) cs) None) (Some (n, rest)) not.1) [
             | inl bad ↦ absurd cc
@@ -95,7 +95,7 @@ end_takes end (c ∷ cs) n rest e =
           let same : (0, cs) ≡ (n, rest) = some_is (0, cs) (n, rest) is.1 in
           let end-is : c ≡ end = eqb-true c end is.0 in
           let rest-is : cs ≡ rest = ap (λ (p : ℕ × List ℕ). p.1) same in
-          (sym (ap (λ (p : ℕ × List ℕ). p.0) same), cc)
+          (sym (ap (λ (p : ℕ × List ℕ). p.0) same), λ i. end-is i ∷ rest-is i)
       | inr not ↦ absurd cc
     ]
 

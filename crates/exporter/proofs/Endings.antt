@@ -1,13 +1,12 @@
 -- Bytes that are a script leave its form nowhere; what was read is all that the source told; and the text that is
 -- printed is that of the replay.
-use Rattle.std.proofs.Common.{◌≡◌, ℕ, ◌+◌, ◌<◌, ◌≤◌, Bool, true, map, get_or, List, [], ◌∷◌, ◌++◌, length, Option, Some, None, refl, sym, ap, subst, ◌∙◌, arith, append_assoc}
+use Rattle.std.proofs.Common.{◌≡◌, ℕ, ◌≤◌, Bool, true, map, get_or, List, [], ◌∷◌, ◌++◌, length, Option, Some, None, refl, sym, ap, subst, ◌∙◌, arith, append_assoc}
 use Rattle.std.specs.Prelude.{IfSome}
 use Rattle.std.specs.Option.{option_to_list}
 use Rattle.std.specs.Io.KnownBytes.{Consumes, IsAtEnd, Keeps}
 use Rattle.std.proofs.lemmas.List.{append-nil}
 use Rattle.world_traits.specs.Causes.{Rose}
 use Rattle.plant_book.specs.Book.{BookRecord}
-use Rattle.exporter.specs.declared.input.TheConstants.{INPUT_MAX}
 use Rattle.exporter.specs.declared.line.Line.{Line}
 use Rattle.exporter.specs.declared.script.Script.{Script}
 use Rattle.exporter.specs.declared.ended.Ended.{Ended}
@@ -60,8 +59,8 @@ same_count acc (a ∷ ls) [] x y p q e leaves leaves' =
 same_count acc (a ∷ ls) (b ∷ bs) x y p q e leaves leaves' =
     let same = one_line a b (lines_text ls ++ x) (lines_text bs ++ y) p.0.0 q.0.0 (sym (append_assoc (line_text a) (lines_text ls) x) ∙ e ∙ append_assoc (line_text b) (lines_text bs) y) in
     let rest = same_count (acc ++ a ∷ []) ls bs x y p.1 (subst (λ (z : Line). EachMayFollow (acc ++ z ∷ []) bs) (sym same.0) q.1) same.1
-      (subst (λ (xs : List Line). Leaves xs x) (sym (append_assoc acc (a ∷ []) ls)) leaves)
-      (subst (λ (xs : List Line). Leaves xs y) (sym (append_assoc acc (a ∷ []) bs)) (subst (λ (z : Line). Leaves (acc ++ z ∷ bs) y) (sym same.0) leaves')) in
+    (subst (λ (xs : List Line). Leaves xs x) (sym (append_assoc acc (a ∷ []) ls)) leaves)
+    (subst (λ (xs : List Line). Leaves xs y) (sym (append_assoc acc (a ∷ []) bs)) (subst (λ (z : Line). Leaves (acc ++ z ∷ bs) y) (sym same.0) leaves')) in
     omega (arith, rest)
 
 pub one_number : (bytes : List ℕ) (m n : ℕ) → LeavesFormAt bytes m → LeavesFormAt bytes n → m ≡ n

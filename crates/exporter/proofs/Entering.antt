@@ -1,5 +1,5 @@
 -- Entering the calls of a script one by one.
-use Rattle.std.proofs.Common.{◌≡◌, ℕ, suc, ◌+◌, ◌<◌, ◌≤◌, List, [], ◌∷◌, ◌++◌, length, map, get_or, take, drop, Option, Some, refl, sym, ap, subst, ◌∙◌, arith, append_assoc, add-one}
+use Rattle.std.proofs.Common.{◌≡◌, ℕ, ◌+◌, ◌<◌, ◌≤◌, List, [], ◌∷◌, ◌++◌, length, get_or, take, drop, Some, refl, sym, ap, subst, ◌∙◌, append_assoc, add-one}
 use Rattle.std.proofs.lemmas.List.{map_push, take_more, append-nil}
 use Rattle.std.proofs.Math.Seq.{drop-cons}
 use Rattle.plant_book.specs.declared.call.Call.{Call}
@@ -11,7 +11,7 @@ use Rattle.plant_book.specs.Calls.{moment, entered}
 use Rattle.exporter.specs.declared.line.SiteLine as site_line
 use Rattle.exporter.specs.declared.script.Script.{Script}
 use Rattle.exporter.specs.Script.{last_moment, site_with}
-use Rattle.exporter.specs.Playing.{CallFits, EachFits, FitBehind, Enters, IsSafeBook, Keeps, calls_in}
+use Rattle.exporter.specs.Playing.{EachFits, FitBehind, Enters, IsSafeBook, Keeps, calls_in}
 use Rattle.exporter.proofs.Plays.{entered_is}
 
 pub enters_one : (old new : BookRecord) (call : Call) (reply : Reply)

@@ -1,6 +1,5 @@
 -- Bytes begin with one line at most.
-use Rattle.std.proofs.Common.{◌≡◌, ◌≢◌, ℕ, ◌+◌, ◌<◌, ◌≤◌, List, [], ◌∷◌, ◌++◌, length, Option, Some, None, refl, sym, ap, subst, ◌∙◌, arith, rules, ℤ, pos}
-use Rattle.std.specs.Prelude.{◌≤ℤ◌}
+use Rattle.std.proofs.Common.{◌≡◌, ℕ, ◌<◌, ◌≤◌, List, ◌++◌, Option, Some, None, refl, sym, ap, subst, ◌∙◌, arith, rules, ℤ, pos}
 use Rattle.limiter_num.specs.declared.rules.Rules.{Rules}
 use Rattle.limiter_num.specs.declared.rating.Rating.{Rating}
 use Rattle.plant_book.specs.declared.site.Unit as unit
@@ -20,7 +19,7 @@ use Rattle.exporter.specs.Script.{IsLine}
 use Rattle.exporter.specs.Reading.{Judges, fields_at, fields_of}
 use Rattle.exporter.proofs.Decimals.{some, some_is}
 use Rattle.exporter.proofs.Spelled.{fields_text, fields_take}
-use Rattle.exporter.proofs.Again.{IsRead, line_again}
+use Rattle.exporter.proofs.Again.{line_again}
 
 -- a line is spelled as its numbers are
 text_of : (line : Line) (numbers : Fields) → IsLine line → fields_of line ≡ Some numbers → line_text line ≡ fields_text numbers

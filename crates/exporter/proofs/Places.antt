@@ -1,5 +1,5 @@
 -- What the script in memory says of a line is what the lines that it holds say.
-use Rattle.std.proofs.Common.{◌≡◌, ◌≢◌, ℕ, suc, ◌+◌, ◌-◌, ◌<◌, ◌≤◌, Bool, true, false, leb, List, [], ◌∷◌, ◌++◌, length, get_or, Option, Some, None, refl, sym, ap, subst, ◌∙◌, arith, rules, IsTrue}
+use Rattle.std.proofs.Common.{◌≡◌, ℕ, suc, ◌-◌, ◌<◌, ◌≤◌, Bool, true, List, [], ◌∷◌, ◌++◌, length, get_or, Option, Some, None, refl, sym, ap, subst, ◌∙◌, arith, IsTrue}
 use Rattle.std.specs.Prelude.{IfSome, slice_get}
 use Rattle.std.specs.Option.{option_to_list, option_map_or}
 use Rattle.limiter_num.specs.Rating.{mw}
@@ -14,7 +14,7 @@ use Rattle.exporter.specs.declared.line.Line.{Line}
 use Rattle.exporter.specs.declared.line.Line.TheVariants as lines
 use Rattle.exporter.specs.declared.script.Script.{Script}
 use Rattle.exporter.specs.Text.{line_text}
-use Rattle.exporter.specs.Script.{units_of, calls_of, site_with, last_moment, IsLine, MayFollow}
+use Rattle.exporter.specs.Script.{site_with, last_moment, IsLine, MayFollow}
 use Rattle.exporter.specs.Holding.{Holds, IsNextCall, FitsIn, TakesNone}
 use Rattle.exporter.proofs.Decimals.{some, some_is}
 use Rattle.exporter.proofs.Fronts.{one_line}

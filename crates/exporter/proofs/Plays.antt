@@ -1,7 +1,6 @@
 -- A script that was read can be played, and the book that is kept has its calls.
-use Rattle.std.proofs.Common.{◌≡◌, ◌≢◌, ℕ, suc, ◌+◌, ◌-◌, ◌<◌, ◌≤◌, max, List, [], ◌∷◌, ◌++◌, length, map, Option, Some, None, refl, sym, ap, subst, ◌∙◌, arith, append_assoc, length-append}
+use Rattle.std.proofs.Common.{◌≡◌, ℕ, ◌<◌, ◌≤◌, max, List, [], ◌∷◌, ◌++◌, length, Option, Some, None, refl, sym, ap, subst, ◌∙◌, arith, append_assoc, length-append}
 use Rattle.std.specs.Prelude.{IfSome}
-use Rattle.std.specs.Option.{option_to_list}
 use Rattle.std.specs.List.{flat_map}
 use Rattle.std.proofs.lemmas.List.{append-nil}
 use Rattle.std.proofs.lemmas.List.Concat.{flat_map-append}
@@ -17,7 +16,7 @@ use Rattle.exporter.specs.declared.line.Line.{Line}
 use Rattle.exporter.specs.declared.line.Line.TheVariants as lines
 use Rattle.exporter.specs.declared.script.Script.{Script}
 use Rattle.exporter.specs.Script.{site_on, unit_on, start_on, call_on, sites_of, units_of, starts_of, calls_of, last_moment, site_with, EachMayFollow, MayFollow}
-use Rattle.exporter.specs.Holding.{Holds, ScriptOf}
+use Rattle.exporter.specs.Holding.{ScriptOf}
 use Rattle.exporter.proofs.Places.{list_some}
 use Rattle.exporter.specs.Playing.{CallFits, EachFits, Playable, calls_in}
 

@@ -1,6 +1,5 @@
 -- Reading a script line by line.
-use Rattle.std.proofs.Common.{◌≡◌, ◌≢◌, ℕ, suc, ◌+◌, ◌-◌, ◌<◌, ◌≤◌, List, [], ◌∷◌, ◌++◌, length, Option, Some, None, refl, sym, ap, subst, ◌∙◌, arith, append_assoc, length-append}
-use Rattle.std.specs.List.{flat_map}
+use Rattle.std.proofs.Common.{◌≡◌, ℕ, ◌+◌, ◌<◌, ◌≤◌, List, [], ◌∷◌, ◌++◌, length, Option, Some, None, refl, sym, ap, subst, ◌∙◌, arith, append_assoc, length-append}
 use Rattle.std.specs.Option.{option_to_list}
 use Rattle.std.proofs.lemmas.List.{append-nil, nil_from_length}
 use Rattle.std.proofs.lemmas.List.Concat.{flat_map-append}
@@ -9,8 +8,8 @@ use Rattle.exporter.specs.declared.script.Script.{Script}
 use Rattle.exporter.specs.declared.script.ScriptFault.{ScriptFault}
 use Rattle.exporter.specs.declared.script.ScriptFault.TheVariants as faults
 use Rattle.exporter.specs.Text.{spaced, line_words, line_text}
-use Rattle.exporter.specs.Script.{starts_of, MayFollow, EachMayFollow, IsForm, lines_text, IsBegun, LeavesFormAt}
-use Rattle.exporter.specs.Holding.{Holds, TakesLine, TakesNone, Stops, ScriptOf, Explains}
+use Rattle.exporter.specs.Script.{MayFollow, EachMayFollow, IsForm, lines_text, IsBegun, LeavesFormAt}
+use Rattle.exporter.specs.Holding.{Holds, TakesLine, Stops, ScriptOf, Explains}
 
 -- the lines that were read are the front of the bytes
 pub record Progress (bytes rest : List ℕ) (script : Script) (number : ℕ) : Type 0 where

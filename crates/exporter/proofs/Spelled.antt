@@ -1,17 +1,16 @@
 -- The numbers of a line that are read are those that are spelled, and what is spelled is read.
-use Rattle.std.proofs.Common.{◌≡◌, ◌≢◌, ℕ, zero, suc, ◌+◌, ◌*◌, ◌-◌, ◌^◌, ◌<◌, ◌≤◌, Bool, true, false, cond, eqb, ltb, ◌||◌, ◌⊎◌, List, [], ◌∷◌, ◌++◌, length, get_or, take, drop, Option, Some, None, refl, sym, ap, subst, ◌∙◌, arith, rules, inl, inr, append_assoc, ℤ, pos, negsuc}
+use Rattle.std.proofs.Common.{◌≡◌, ℕ, suc, ◌-◌, eqb, ltb, ◌||◌, ◌⊎◌, List, [], ◌∷◌, ◌++◌, length, take, drop, Option, Some, None, refl, sym, ap, subst, ◌∙◌, arith, inl, inr, append_assoc, ℤ, pos, negsuc}
 use Rattle.std.specs.Prelude.{codes}
 use Rattle.std.specs.Fmt.{decimal, signed_decimal}
 use Rattle.std.specs.Str.{bytes_eq}
-use Rattle.std.proofs.lemmas.Bool.{eqb-true, eqb-false, ltb-true, ltb-false, lt-ltb, le-ltb, eq-eqb, ne_eqb}
-use Rattle.std.proofs.lemmas.Bool.Decides.{nat_tests, eqb_tells}
+use Rattle.std.proofs.lemmas.Bool.Decides.{nat_tests}
 use Rattle.std.proofs.lemmas.Slice.Eq.{bytes_eq-Decides}
 use Rattle.std.proofs.lemmas.List.{take-append-drop}
 use Rattle.exporter.specs.declared.fields.Fields.{Fields}
 use Rattle.exporter.specs.declared.fields.Fields.TheVariants as fields
 use Rattle.exporter.specs.Text.{spaced}
 use Rattle.exporter.specs.Reading.{◌>>=◌, behind, after, number_at, negative, positive, negative_at, positive_at, signed_at, site_at, inverter_at, begin_at, link_at, ask_at, tick_at, fields_at}
-use Rattle.exporter.proofs.Decimals.{Number, number_takes, number_again, chosen, some, some_is}
+use Rattle.exporter.proofs.Decimals.{number_takes, chosen, some, some_is}
 
 -- the value of a step that gave one
 pub bind_some : {A B : Type 0} (r : Option A) (f : A → Option B) (y : B) → (r >>= f) ≡ Some y → (x : A) × (r ≡ Some x) × (f x ≡ Some y)

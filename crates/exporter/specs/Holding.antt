@@ -1,5 +1,5 @@
 -- What a script in memory holds of lines, and what a line has to meet to go in.
-use Rattle.std.specs.Prelude.{◌≡◌, ℕ, ◌+◌, ◌<◌, ◌≤◌, ◌⊎◌, List, [], ◌∷◌, ◌++◌, length, Option, Some, None, IfSome}
+use Rattle.std.specs.Prelude.{◌≡◌, ℕ, ◌<◌, ◌≤◌, List, [], ◌∷◌, ◌++◌, length, Some, None, IfSome}
 use Rattle.std.specs.Option.{option_to_list}
 use Rattle.plant_book.specs.declared.call.Call.{Call}
 use Rattle.plant_book.specs.Calls.{moment, named}
@@ -11,7 +11,7 @@ use Rattle.exporter.specs.declared.script.Script.{Script}
 use Rattle.exporter.specs.declared.script.ScriptFault.{ScriptFault}
 use Rattle.exporter.specs.declared.script.ScriptFault.TheVariants as faults
 use Rattle.exporter.specs.Text.{line_text}
-use Rattle.exporter.specs.Script.{sites_of, units_of, starts_of, calls_of, site_with, last_moment, IsLine, MayFollow, IsScript, LeavesFormAt}
+use Rattle.exporter.specs.Script.{sites_of, units_of, starts_of, calls_of, site_with, last_moment, MayFollow, IsScript, LeavesFormAt}
 
 -- the script holds what these lines tell
 pub record Holds (before : List Line) (script : Script) : Type 0 where

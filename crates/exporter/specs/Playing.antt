@@ -1,9 +1,9 @@
 -- Scripts that a ledger can play, and what it then keeps.
-use Rattle.std.specs.Prelude.{◌≡◌, ℕ, ◌<◌, ◌≤◌, List, [], ◌∷◌, ◌++◌, length, map, Option, Some, None}
+use Rattle.std.specs.Prelude.{◌≡◌, ℕ, ◌≤◌, List, [], ◌∷◌, ◌++◌, length, map, Some}
 use Rattle.plant_book.specs.declared.call.Call.{Call}
 use Rattle.plant_book.specs.declared.call.TheConstants.{MOMENT_MAX}
 use Rattle.plant_book.specs.declared.book.Entry.{Entry}
-use Rattle.plant_book.specs.Site.{SiteRecord, inverters}
+use Rattle.plant_book.specs.Site.{inverters}
 use Rattle.plant_book.specs.Book.{BookRecord}
 use Rattle.plant_book.specs.Calls.{moment}
 use Rattle.plant_book.specs.Answered.{IsOpenable, IsBook, IsBuilt}

@@ -1,5 +1,5 @@
 -- Scripts as lists of lines, and the first line at which input leaves their form.
-use Rattle.std.specs.Prelude.{◌≡◌, ℕ, ◌+◌, ◌^◌, ◌<◌, ◌≤◌, Bool, true, false, ◌⊎◌, List, [], ◌∷◌, ◌++◌, length, Option, Some, None, IfSome}
+use Rattle.std.specs.Prelude.{◌≡◌, ℕ, ◌+◌, ◌^◌, ◌<◌, ◌≤◌, List, [], ◌∷◌, ◌++◌, length, IfSome}
 use Rattle.std.specs.List.{flat_map}
 use Rattle.plant_book.specs.declared.site.Policy.TheVariants as policies
 use Rattle.plant_book.specs.declared.site.Unit as unit

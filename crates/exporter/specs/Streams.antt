@@ -1,5 +1,5 @@
 -- What reading a whole source and writing a whole text leave.
-use Rattle.std.specs.Prelude.{◌≡◌, ℕ, ◌<◌, ◌≤◌, List, length, take, Option, IfSome}
+use Rattle.std.specs.Prelude.{ℕ, ◌<◌, ◌≤◌, List, length, take, Option, IfSome}
 use Rattle.std.specs.Io.KnownBytes.{Consumes, Appends, IsAtEnd}
 use Rattle.world_traits.specs.Causes.{Rose}
 use Rattle.exporter.specs.declared.input.TheConstants.{INPUT_MAX}

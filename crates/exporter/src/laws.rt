@@ -7,5 +7,4 @@ pub fn one_reading()
     ensures script { (bytes : List ℕ) (a b : List Line) → IsScript bytes a → IsScript bytes b → a ≡ b }
     ensures first_bad_line { (bytes : List ℕ) (m n : ℕ) → LeavesFormAt bytes m → LeavesFormAt bytes n → m ≡ n }
     ensures not_both { (bytes : List ℕ) (script : List Line) (line : ℕ) → IsScript bytes script → LeavesFormAt bytes line → ⊥ }
-{
-}
+{}

@@ -1,6 +1,4 @@
 -- What is read is spelled so, and what is spelled so is read.
-use Rattle.std.proofs.Common.{◌≡◌, ◌∙◌, rules}
-use Rattle.exporter.specs.Reading.{ReadsLine}
 use Rattle.exporter.proofs.Fronts.{line_found, no_numbers, no_line}
 use Rattle.exporter.proofs.judging.read_line.Goals as goal
 

@@ -1,4 +1,4 @@
-use Rattle.std.proofs.Common.{◌≤◌, arith}
+use Rattle.std.proofs.Common.{arith}
 use Rattle.exporter.proofs.Written.{front_more}
 use Rattle.exporter.proofs.output.write_whole.Goals as goal
 

@@ -1,4 +1,3 @@
-use Rattle.std.proofs.Common.{◌≡◌}
 use Rattle.world_traits.specs.Causes.{Rose}
 use Rattle.exporter.proofs.Endings.{complete_by}
 use Rattle.exporter.proofs.plain.plain.Goals as goal

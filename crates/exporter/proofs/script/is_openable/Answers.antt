@@ -1,5 +1,4 @@
-use Rattle.std.proofs.Common.{◌≡◌, ◌≤◌, length, arith, rules, sym, leb, IsTrue}
-use Rattle.std.proofs.lemmas.Grind.{common_steps}
+use Rattle.std.proofs.Common.{◌≤◌, length, rules}
 use Rattle.exporter.proofs.Places.{openable}
 use Rattle.exporter.proofs.script.is_openable.Goals as goal
 

@@ -1,5 +1,4 @@
-use Rattle.std.proofs.Common.{◌≡◌, ◌<◌, length, arith, rules}
-use Rattle.exporter.proofs.Progress.{begins, goes_on}
+use Rattle.exporter.proofs.Progress.{goes_on}
 use Rattle.exporter.proofs.script.read_script.Goals as goal
 
 pub loop-rest-preserved : goal.loop-rest-preserved
