@@ -1,5 +1,5 @@
 -- How the program ends: the status of each end, the words that it takes, and the cause of each end.
-use Rattle.std.specs.Prelude.{◌≡◌, ℕ, ◌<◌, List, [], ◌∷◌, length, Option, IfSome, codes}
+use Rattle.std.specs.Prelude.{◌≡◌, ℕ, ◌<◌, ◌≤◌, List, [], ◌∷◌, length, Option, IfSome, codes}
 use Rattle.std.specs.Io.KnownBytes.{Appends, Keeps}
 use Rattle.world_traits.specs.Causes.{Rose}
 use Rattle.exporter.specs.declared.input.TheConstants.{INPUT_MAX}
@@ -32,6 +32,13 @@ EndsBy ends.NoMemory before now told = Unit {0}
 EndsBy ends.Done before now told = ⊥
 EndsBy ends.BadWords before now told = ⊥
 EndsBy ends.WriteFault before now told = ⊥
+
+-- the input is within its limit, where this end tells that it was read to its end
+abbrev pub IsWithin : Ended → Option (List ℕ) → Type 0
+IsWithin ends.Done told = IfSome told (λ bytes. length bytes ≤ INPUT_MAX)
+IsWithin (ends.BadLine line kind) told = IfSome told (λ bytes. length bytes ≤ INPUT_MAX)
+IsWithin ends.WriteFault told = IfSome told (λ bytes. length bytes ≤ INPUT_MAX)
+IsWithin _ told = Unit {0}
 
 -- what the known bytes of the output gained: at the end Done such a text, and at WriteFault a front of one
 abbrev pub Gains : Ended → Option (List ℕ) → Option (List ℕ) → (List ℕ → Type 0) → Type 0

@@ -5,7 +5,7 @@ ghost use Rattle.world_traits.specs.Causes.{Rose};
 ghost use Rattle.exporter.specs.declared.line.Line.{Line};
 ghost use Rattle.exporter.specs.Script.{IsScript, LeavesFormAt};
 ghost use Rattle.exporter.specs.Replay.{IsReplay};
-ghost use Rattle.exporter.specs.Ends.{AreReplay, EndsBy, EndsScript, Gains, GainsNothing, IsDoneOrShort};
+ghost use Rattle.exporter.specs.Ends.{AreReplay, EndsBy, EndsScript, Gains, GainsNothing, IsDoneOrShort, IsWithin};
 
 use crate::ended::{Ended, LineKind};
 use crate::input::{INPUT_MAX, InputFault, read_whole};
@@ -55,6 +55,8 @@ fn replay<S: Source>(alloc: Global, input: &mut S) -> Result<String, Ended>
     ensures read { OnOk result (IsAtEnd (S.left input.new)) }
     ensures text { IfOk result (λ text. IfSome (S.left input.old) (λ bytes. IsReplay bytes (string_bytes text))) }
     ensures cause { IfErr result (λ ended. EndsBy ended (S.faults input.old) (S.faults input.new) (S.left input.old)) }
+    ensures within { OnOk result (IfSome (S.left input.old) (λ bytes. length bytes ≤ INPUT_MAX)) }
+    ensures ended_within { IfErr result (λ ended. IsWithin ended (S.left input.old)) }
 {
     let bytes = match read_whole(alloc, input) {
         Ok(bytes) => bytes,
@@ -78,6 +80,7 @@ pub fn plain<S: Source, O: Sink>(
     ensures bad_line { (line : ℕ) (kind : LineKind) → result ≡ Ended.BadLine line kind
         → (kind ≡ LineKind.Form) × IfSome (S.left input.old) (λ bytes. LeavesFormAt bytes line) }
     ensures too_long { (limit : ℕ) → result ≡ Ended.TooLong limit → (limit ≡ 134217728) × IfSome (S.left input.old) (λ bytes. limit < length bytes) }
+    ensures within { IsWithin result (S.left input.old) }
     ensures read_fault { result ≡ Ended.ReadFault → Rose (S.faults input.old) (S.faults input.new) }
     ensures write_fault { result ≡ Ended.WriteFault → Rose (O.faults out.old) (O.faults out.new) }
     ensures read_faults_stay { S.faults input.old ≤ S.faults input.new }
