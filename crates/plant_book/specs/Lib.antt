@@ -1,6 +1,7 @@
 pub mod Sums
 pub mod Site
 pub mod Book
+pub mod Port
 pub mod Calls
 pub mod Requests
 pub mod Writes
