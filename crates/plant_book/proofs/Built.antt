@@ -16,7 +16,9 @@ use Rattle.plant_book.specs.Answered.{IsBuilt, IsBuiltBook}
 use Rattle.plant_book.specs.Sums.{last_that}
 use Rattle.plant_book.specs.Site.{rated_at, floor_at}
 use Rattle.plant_book.specs.Book.{BookRecord}
-use Rattle.plant_book.specs.Policy.{is_sight, sees, is_strange, strange_after, trusted, target, target_under}
+use Rattle.plant_book.specs.declared.site.Policy.{Policy}
+use Rattle.plant_book.specs.Shares.{level_of, target_of}
+use Rattle.plant_book.specs.Policy.{is_sight, sees, is_strange, strange_after, trusted, claim_of, claims, target}
 
 -- a filter that every element passes leaves the list
 pub filter_all_pass : {X : Type 0} (p : X → Bool) → ((x : X) → p x ≡ true) → (xs : List X) → filter p xs ≡ xs
@@ -77,4 +79,5 @@ is_strange-built inverter entries built = ap strange_after (no_sight inverter en
 pub target-built : (book : BookRecord) (inverter : ℕ) → IsBuiltBook book → target book inverter ≡ rated_at book.site inverter
 unfolding target trusted
 target-built book inverter built =
-    ap (target_under book inverter) built.policy ∙ ap (λ (strange : Bool). cond strange (floor_at book.site inverter) (rated_at book.site inverter)) (is_strange-built inverter book.entries built.calls)
+    ap (λ (policy : Policy). target_of policy (level_of book.site.cap (claims book)) (claim_of book inverter)) built.policy
+    ∙ ap (λ (strange : Bool). cond strange (floor_at book.site inverter) (rated_at book.site inverter)) (is_strange-built inverter book.entries built.calls)

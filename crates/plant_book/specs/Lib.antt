@@ -6,6 +6,7 @@ pub mod Calls
 pub mod Requests
 pub mod Writes
 pub mod Reserved
+pub mod Shares
 pub mod Policy
 pub mod Answer
 pub mod Answered

@@ -1,17 +1,17 @@
 -- What the policy allows an inverter.
-use Rattle.std.specs.Prelude.{ℕ, Bool, true, false, nat_le, ◌==◌, if◌then◌else◌, min, max, List, Option, Some, None}
-use Rattle.limiter_num.specs.Greatest.{greatest_up_to}
-use Rattle.plant_book.specs.declared.site.Policy.{Policy}
-use Rattle.plant_book.specs.declared.site.Policy.TheVariants as policies
+use Rattle.std.specs.Prelude.{ℕ, Bool, true, false, ◌==◌, if◌then◌else◌, map, List, Option, Some, None}
+use Rattle.std.specs.List.{range_with_len}
+use Rattle.plant_book.specs.declared.claim.Claim.{Claim}
 use Rattle.plant_book.specs.declared.call.Call.{Call}
 use Rattle.plant_book.specs.declared.call.Call.TheVariants as calls
 use Rattle.plant_book.specs.declared.call.Reply.{Reply}
 use Rattle.plant_book.specs.declared.call.Reply.TheVariants as replies
 use Rattle.plant_book.specs.declared.book.Entry.{Entry}
-use Rattle.plant_book.specs.Sums.{sum_below, last_that}
+use Rattle.plant_book.specs.Sums.{last_that}
 use Rattle.plant_book.specs.Site.{inverters, floor_at, rated_at}
 use Rattle.plant_book.specs.Book.{BookRecord}
 use Rattle.plant_book.specs.Requests.{is_seen}
+use Rattle.plant_book.specs.Shares.{level_of, target_of}
 
 abbrev pub sees : ℕ → Call → Reply → Bool
 sees inverter (calls.Saw at other number raw) reply = if other == inverter then is_seen reply else false
@@ -56,18 +56,14 @@ wish book inverter = wish_after (rated_at book.site inverter) (last_that (is_wan
 unfoldable pub trusted : BookRecord → ℕ → ℕ
 trusted book inverter = if is_strange inverter book.entries then floor_at book.site inverter else rated_at book.site inverter
 
--- the fair target of an inverter at a level
-unfoldable pub fair_target : BookRecord → ℕ → ℕ → ℕ
-fair_target book level inverter = max (floor_at book.site inverter) (min (wish book inverter) (min (trusted book inverter) level))
+-- what an inverter's share goes by
+abbrev pub claim_of : BookRecord → ℕ → Claim
+claim_of book inverter = record { floor = floor_at book.site inverter; wish = wish book inverter; rated = trusted book inverter }
 
--- the greatest level from 0 to the cap at which the fair targets of all sum to at most the cap
-unfoldable pub fair_level : BookRecord → ℕ
-fair_level book = greatest_up_to book.site.cap (λ level. nat_le (sum_below (inverters book.site) (fair_target book level)) book.site.cap)
-
-abbrev pub target_under : BookRecord → ℕ → Policy → ℕ
-target_under book inverter policies.Open = trusted book inverter
-target_under book inverter policies.Fair = fair_target book (fair_level book) inverter
+-- the claims of all inverters in the order of their numbers
+unfoldable pub claims : BookRecord → List Claim
+claims book = map (claim_of book) (range_with_len 0 (inverters book.site))
 
 -- the greatest limit in milliwatts that the policy allows the inverter
 unfoldable pub target : BookRecord → ℕ → ℕ
-target book inverter = target_under book inverter book.site.policy
+target book inverter = target_of book.site.policy (level_of book.site.cap (claims book)) (claim_of book inverter)

@@ -6,6 +6,7 @@
 
 mod book;
 mod call;
+mod claim;
 mod counts;
 mod entries;
 mod laws;
@@ -16,6 +17,7 @@ mod site;
 
 pub use book::{Book, ENTRY_BYTES_MAX, Entry};
 pub use call::{Call, LIVE_MAX, MOMENT_MAX, REQUESTS_MAX, Read, Reply, WISH_MAX, Write};
+pub use claim::Claim;
 pub use laws::{books_are_safe, devices_exist};
 pub use port::Port;
 pub use replies::{answer, reserved_plain};
