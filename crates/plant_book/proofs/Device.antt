@@ -1,30 +1,32 @@
--- What an inverter holds is covered by what is reserved for it.
-use Rattle.std.proofs.Common.{◌≡◌, ℕ, ◌+◌, ◌≤◌, Bool, true, not, eqb, leb, List, [], ◌∷◌, ◌++◌, map, Option, Some, None, refl, sym, ap, subst, ◌∙◌, append_assoc, arith, inl, inr}
+-- What an inverter holds is covered: whatever it did that follows the timed device.
+use Rattle.std.proofs.Common.{◌≡◌, ℕ, ◌+◌, ◌≤◌, Bool, true, eqb, List, [], ◌∷◌, ◌++◌, map, Option, Some, None, refl, sym, ap, subst, ◌∙◌, append_assoc, arith, inl, inr, ◌⊎◌}
 use Rattle.std.specs.Prelude.{filter, find, Contains, IsSomeAnd, slice_get}
-use Rattle.std.specs.List.{flat_map}
+use Rattle.std.specs.List.{AllByRecursion}
 use Rattle.std.specs.Option.{option_or, option_map_or}
-use Rattle.std.proofs.lemmas.Bool.{cases_Bool, and_from, eq-eqb, le-leb}
+use Rattle.std.proofs.lemmas.Bool.{eq-eqb, and_parts, eqb-true}
 use Rattle.std.proofs.lemmas.List.Elements.{Contains-push, Contains-append_cases, Contains-append_left, Contains-append_right}
-use Rattle.std.proofs.lemmas.List.Concat.{flat_map-cons}
 use Rattle.std.proofs.lemmas.List.Folds.{find-append}
 use Rattle.limiter_num.specs.Rating.{mw}
+use Rattle.limiter_num.specs.declared.rules.Rules.{Rules}
 use Rattle.limiter_num.specs.Timers.{tmax, reach}
 use Rattle.plant_book.specs.declared.site.Unit as unit
 use Rattle.plant_book.specs.declared.call.Write as writes
 use Rattle.plant_book.specs.declared.book.Entry.{Entry}
-use Rattle.plant_book.specs.Sums.{last_that}
-use Rattle.plant_book.specs.Site.{SiteRecord, mw_at, floor_at, floor_raw_at}
+use Rattle.plant_book.specs.Sums.{last_that, sum_below}
+use Rattle.plant_book.specs.Site.{SiteRecord, inverters, mw_at, floor_at, floor_raw_at}
 use Rattle.plant_book.specs.Book.{BookRecord}
-use Rattle.plant_book.specs.Writes.{grant_of, is_current, live}
-use Rattle.plant_book.specs.Reserved.{covering, reserved_at, reserved, now_of}
-use Rattle.plant_book.specs.Answered.{IsBuiltBook}
-use Rattle.plant_book.specs.History.{Grant, is_given_back, life_grants, grants, commissioned}
+use Rattle.plant_book.specs.Writes.{settles, standing}
+use Rattle.plant_book.specs.Reserved.{covering, now_of}
+use Rattle.plant_book.specs.Answered.{IsBook}
+use Rattle.plant_book.specs.History.{History, Grant, Sight, lives, grants, past_grants, life_grants, lives_grants, life_sights, lives_sights, sights, InTurn, first_start, IsHistory}
 use Rattle.plant_book.specs.Behaviour.{Event, Act, Revert, Look, Timed, is_change, held, held_by, held_after, IsBehaviour}
 use Rattle.plant_book.specs.Held.{IsCut}
 use Rattle.plant_book.specs.Safe.{held_mw}
 use Rattle.plant_book.proofs.Maxima.{fold_max_from, le_fold_max, only_element}
-use Rattle.plant_book.proofs.Built.{live-built}
 use Rattle.plant_book.proofs.Last.{last_that-stands, found_has}
+use Rattle.plant_book.proofs.Freeing.{FreedBy, freed_among, Fate, life_fate}
+use Rattle.plant_book.proofs.Looks.{not_the_last}
+use Rattle.plant_book.proofs.Cover.{start_le_now, cover, IsLink, IsChain, floor_le_cover, StandsAmong, old_le_cover, standing_le_cover}
 
 -- the milliwatts of the floor's raw percentage are the floor's
 floor_by : (found : Option unit.Unit) → option_map_or (λ u. mw u.rating (option_map_or (λ v. v.floor) found 0)) found 0 ≡ option_map_or (λ u. mw u.rating u.floor) found 0
@@ -35,82 +37,163 @@ pub mw_at-floor : (site : SiteRecord) (inverter : ℕ) → mw_at site inverter (
 unfolding mw_at floor_raw_at floor_at
 mw_at-floor site inverter = floor_by (slice_get site.units inverter)
 
--- a grant of a list of writes has one of its writes
-made_of : (life place : ℕ) (p : writes.Write → Bool) (its : List writes.Write) (grant : Grant)
-    → Contains (map (λ (write : writes.Write). record { life = life; place = place; write = write }) (filter p its)) grant → Contains its grant.write
-made_of life place p [] grant within = absurd (omega (arith, within.1))
-made_of life place p (write ∷ its) grant within =
-    elim (cases_Bool (p write)) [
-      | inl passes ↦
-          let more = rw passes at within in
-          elim (Contains-append_cases (record { life = life; place = place; write = write } ∷ []) _ grant more) [
-            | inl here ↦
-                let same : write ≡ grant.write = ap (λ (g : Grant). g.write) (only_element _ grant here) in
-                Contains-append_left (write ∷ []) its grant.write (subst (λ (w : writes.Write). Contains (write ∷ []) w) same (Contains-push [] write))
-            | inr later ↦ Contains-append_right (write ∷ []) its grant.write (made_of life place p its grant later)
-          ]
-      | inr fails ↦ let less = rw fails at within in Contains-append_right (write ∷ []) its grant.write (made_of life place p its grant less)
+-- a grant is past, or of a life
+record PastOf (past : List writes.Write) (grant : Grant) : Type 0 where
+  within : Contains past grant.write
+  is_past : grant.life ≡ 0
+
+past_of : (place : ℕ) (past : List writes.Write) (grant : Grant) → Contains (past_grants place past) grant → PastOf past grant
+past_of place [] grant within = absurd (omega (arith, within.1))
+past_of place (write ∷ past) grant within =
+    elim (Contains-append_cases (record { life = 0; place = place; write = write } ∷ []) (past_grants (place + 1) past) grant within) [
+      | inl here ↦
+          subst (λ (g : Grant). PastOf (write ∷ past) g) (only_element (record { life = 0; place = place; write = write }) grant here)
+          (record { within = Contains-append_left (write ∷ []) past write (Contains-push [] write); is_past = refl })
+      | inr later ↦ let rest = past_of (place + 1) past grant later in record { within = Contains-append_right (write ∷ []) past grant.write rest.within; is_past = rest.is_past }
     ]
 
-granted_within : (life place : ℕ) (entries : List Entry) (grant : Grant) → Contains (life_grants life place entries) grant → Contains (flat_map grant_of entries) grant.write
-granted_within life place [] grant within = absurd (omega (arith, within.1))
-granted_within life place (entry ∷ entries) grant within =
-    subst (λ (ws : List writes.Write). Contains ws grant.write) (sym (flat_map-cons grant_of entry entries))
-    (elim (Contains-append_cases _ _ grant within) [
-      | inl here ↦ Contains-append_left (grant_of entry) (flat_map grant_of entries) grant.write (made_of life place (λ write. not (is_given_back entries write)) (grant_of entry) grant here)
-      | inr later ↦ Contains-append_right (grant_of entry) (flat_map grant_of entries) grant.write (granted_within life (place + 1) entries grant later)
-    ])
+-- what became of a grant of one of the lives: it stands there, or an answered read freed it
+record LivesFate (site : SiteRecord) (at inverter : ℕ) (write : writes.Write) (its : write.inverter ≡ inverter) (current : at ≤ write.at + reach site.rules) (life : ℕ) (first : ℕ) (books : List BookRecord) : Type 0 where
+  from : first ≤ life
+  is : StandsAmong site at inverter write its current books ⊎ FreedBy site.rules life write (lives_sights first books)
 
-commissioned_within : (book : BookRecord) (grant : Grant) → Contains (grants (commissioned book)) grant → Contains (flat_map grant_of book.entries) grant.write
-commissioned_within book grant within =
-    elim (Contains-append_cases (life_grants 1 0 book.entries) [] grant within) [
-      | inl here ↦ granted_within 1 0 book.entries grant here
-      | inr never ↦ absurd (omega (arith, never.1))
-    ]
+module _ (site : SiteRecord) (at inverter : ℕ) (grant : Grant) (its : grant.write.inverter ≡ inverter) (current : at ≤ grant.write.at + reach site.rules) where
+  lives_fate : (life : ℕ) (books : List BookRecord) → Contains (lives_grants life books) grant → LivesFate site at inverter grant.write its current grant.life life books
+  lives_fate life [] within = absurd (omega (arith, within.1))
+  lives_fate life (book ∷ books) within =
+      let here = life_sights life 0 [] book.entries in
+      let rest = lives_sights (life + 1) books in
+      elim (Contains-append_cases (life_grants life 0 book.entries) (lives_grants (life + 1) books) grant within) [
+        | inl mine ↦
+            let fate = life_fate site.rules life 0 [] book.entries grant mine in
+            record {
+              from = omega (arith, fate.in_life);
+              is = elim fate.is [
+                | inl stands ↦ inl (inl stands)
+                | inr freed ↦ inr (freed_among site.rules grant.life grant.write here (here ++ rest) (λ sight seen. Contains-append_left here rest sight seen)
+                    (subst (λ (n : ℕ). FreedBy site.rules n grant.write here) (sym fate.in_life) freed))
+              ];
+            }
+        | inr later ↦
+            let fate = lives_fate (life + 1) books later in
+            record {
+              from = omega (arith, fate.from);
+              is = elim fate.is [
+                | inl stands ↦ inl (inr stands)
+                | inr freed ↦ inr (freed_among site.rules grant.life grant.write rest (here ++ rest) (λ sight seen. Contains-append_right here rest sight seen) freed)
+              ];
+            }
+      ]
 
-module _ (book : BookRecord) (built : IsBuiltBook book) (inverter at : ℕ) (from : now_of book ≤ at) where
-  -- the limit of a write that is not past its last moment is reserved
-  current_is_reserved : (write : writes.Write) → Contains (flat_map grant_of book.entries) write → write.inverter ≡ inverter → at ≤ write.at + reach book.site.rules → mw_at book.site inverter write.raw ≤ reserved book inverter
-  unfolding reserved_at covering
-  current_is_reserved write within its current =
-      let now = now_of book in
-      let passes : is_current book.site.rules now inverter write ≡ true = and_from (eqb write.inverter inverter) (leb now (write.at + reach book.site.rules)) (eq-eqb write.inverter inverter its) (le-leb now (write.at + reach book.site.rules) (omega arith)) in
-      rw (live-built book.site.rules book.entries now inverter built.calls)
-      (le_fold_max (λ (w : writes.Write). mw_at book.site inverter w.raw) (is_current book.site.rules now inverter) (floor_at book.site inverter) (flat_map grant_of book.entries) write within passes)
+-- the lives of a history are a chain
+after_life : (n : ℕ) (book : BookRecord) (books : List BookRecord) → n ≤ now_of book → AllByRecursion IsBook (book ∷ books) → InTurn (book ∷ books) → AllByRecursion (λ later. n ≤ later.start) books
+after_life n book [] le kept turn = tt
+after_life n book (next ∷ books) le kept turn =
+    (omega (arith, le, turn.0), after_life n next books (omega (arith, le, turn.0, start_le_now next kept.1.0)) kept.1 turn.1)
 
-  floor_is_reserved : floor_at book.site inverter ≤ reserved book inverter
-  unfolding reserved_at covering
-  floor_is_reserved = fold_max_from (λ (w : writes.Write). mw_at book.site inverter w.raw) (floor_at book.site inverter) (live book.site.rules book.entries (now_of book) inverter)
+turn_rest : (book : BookRecord) (books : List BookRecord) → InTurn (book ∷ books) → InTurn books
+turn_rest book [] turn = tt
+turn_rest book (next ∷ books) turn = turn.1
 
-  module _ (events first rest : List Timed) (device : IsBehaviour (commissioned book) inverter events) (cut : IsCut events at first rest) where
+all_until : (at : ℕ) (earlier : List BookRecord) (life : BookRecord) → now_of life ≤ at → AllByRecursion IsBook (earlier ++ life ∷ []) → InTurn (earlier ++ life ∷ []) → AllByRecursion (λ book. now_of book ≤ at) (earlier ++ life ∷ [])
+all_until at [] life le kept turn = (le, tt)
+all_until at (book ∷ []) life le kept turn = (omega (arith, le, turn.0, start_le_now life kept.1.0), (le, tt))
+all_until at (book ∷ next ∷ earlier) life le kept turn =
+    let rest = all_until at (next ∷ earlier) life le kept.1 turn.1 in
+    (omega (arith, turn.0, start_le_now next kept.1.0, rest.0), rest)
+
+chain_of : (site : SiteRecord) (at : ℕ) (books : List BookRecord) → AllByRecursion IsBook books → AllByRecursion (λ book. book.site ≡ site) books → InTurn books → AllByRecursion (λ book. now_of book ≤ at) books → IsChain site at books
+chain_of site at [] kept one_site turn until = tt
+chain_of site at (book ∷ books) kept one_site turn until =
+    (record { kept = kept.0; of_site = one_site.0; until = until.0 }, after_life (now_of book) book books (omega arith) kept turn, chain_of site at books kept.1 one_site.1 (turn_rest book books turn) until.1)
+
+pub chain_of_history : (history : History) (at : ℕ) → IsHistory history → now_of history.life ≤ at → IsChain history.life.site at (lives history)
+chain_of_history history at is from =
+    chain_of history.life.site at (lives history) is.books is.one_site is.in_turn (all_until at history.earlier history.life from is.books is.in_turn)
+
+-- what the past and the floors come to
+abbrev pub past_cover : History → ℕ → ℕ
+past_cover history inverter = covering history.life.site inverter (filter (λ write. eqb write.inverter inverter) history.past)
+
+all_starts : (n : ℕ) (books : List BookRecord) (otherwise : ℕ) → n ≤ first_start books otherwise → AllByRecursion IsBook books → InTurn books → AllByRecursion (λ later. n ≤ later.start) books
+all_starts n [] otherwise le kept turn = tt
+all_starts n (book ∷ books) otherwise le kept turn = (le, after_life n book books (omega (arith, le, start_le_now book kept.0)) kept turn)
+
+all_has : {X : Type 0} (P : X → Type 0) (xs : List X) (x : X) → AllByRecursion P xs → Contains xs x → P x
+all_has P [] x all within = absurd (omega (arith, within.1))
+all_has P (y ∷ xs) x all within = elim (Contains-append_cases (y ∷ []) xs x within) [ inl here ↦ subst P (only_element y x here) all.0 | inr later ↦ all_has P xs x all.1 later ]
+
+module _ (history : History) (is : IsHistory history) (inverter at : ℕ) (from : now_of history.life ≤ at) where
+  chain : IsChain history.life.site at (lives history)
+  chain = chain_of_history history at is from
+
+  pub floor_le_past : floor_at history.life.site inverter ≤ past_cover history inverter
+  unfolding covering
+  floor_le_past = fold_max_from (λ (w : writes.Write). mw_at history.life.site inverter w.raw) (floor_at history.life.site inverter) (filter (λ write. eqb write.inverter inverter) history.past)
+
+  abbrev covers : ℕ
+  covers = cover (past_cover history) (lives history) inverter
+
+  floor_is_covered : floor_at history.life.site inverter ≤ covers
+  floor_is_covered = floor_le_cover history.life.site at inverter (lives history) (past_cover history) chain floor_le_past
+
+  past_is_covered : (write : writes.Write) → Contains history.past write → write.inverter ≡ inverter → at ≤ write.at + reach history.life.site.rules → mw_at history.life.site inverter write.raw ≤ covers
+  unfolding covering
+  past_is_covered write within its current =
+      old_le_cover history.life.site at inverter write its current (lives history) (past_cover history) chain
+      (all_starts write.at (lives history) history.life.start (all_has (λ w. w.at ≤ first_start (lives history) history.life.start) history.past write is.before within) is.books is.in_turn)
+      (le_fold_max (λ (w : writes.Write). mw_at history.life.site inverter w.raw) (λ (w : writes.Write). eqb w.inverter inverter) (floor_at history.life.site inverter) history.past write within (eq-eqb write.inverter inverter its))
+
+  module _ (events first rest : List Timed) (device : IsBehaviour history inverter events) (cut : IsCut events at first rest) where
     -- what ends an Act comes after the cut
-    ends_later : (acted : ℕ) (next : Option Timed) → find is_change rest ≡ next → IsSomeAnd next (λ t. t.at ≤ acted + tmax book.site.rules) → at ≤ acted + tmax book.site.rules
-    ends_later acted None is ends = absurd ends
-    ends_later acted (Some next) is ends = omega (arith, ends, found_has (λ (t : Timed). at ≤ t.at) is_change rest next cut.later is)
+    ends_later : (acted : ℕ) (next : Option Timed) → find is_change rest ≡ next → IsSomeAnd next (λ t. t.at ≤ acted + tmax history.life.site.rules) → at ≤ acted + tmax history.life.site.rules
+    ends_later acted None none ends = absurd ends
+    ends_later acted (Some next) one ends = omega (arith, ends, found_has (λ (t : Timed). at ≤ t.at) is_change rest next cut.later one)
 
-    -- the last Act before the cut was of a write that is not past its last moment
-    act_is_current : (before after : List Timed) (acted : ℕ) (grant : Grant) → first ≡ before ++ record { at = acted; event = Act grant } ∷ after → find is_change after ≡ None
-        → mw_at book.site inverter grant.write.raw ≤ reserved book inverter
+    -- the read that frees a write of the inverter is one of the inverter
+    freed_not_held : (grant : Grant) (before after : List Timed) (acted : ℕ) → grant.write.inverter ≡ inverter → 1 ≤ grant.life → FreedBy history.life.site.rules grant.life grant.write (sights history)
+        → first ≡ before ++ record { at = acted; event = Act grant } ∷ after → find is_change after ≡ None → ⊥
+    freed_not_held grant before after acted its a_life freed stand none =
+        let parts = and_parts (eqb grant.write.inverter freed.sight.read.inverter) _ freed.settled in
+        let of_inverter : freed.sight.read.inverter ≡ inverter = sym (eqb-true grant.write.inverter freed.sight.read.inverter parts.0) ∙ its in
+        not_the_last history inverter at events first rest device cut grant freed.sight freed.within of_inverter freed.in_life a_life freed.settled freed.other before after acted stand none
+
+    -- the last Act before the cut was of a write that is covered
+    act_is_covered : (before after : List Timed) (acted : ℕ) (grant : Grant) → first ≡ before ++ record { at = acted; event = Act grant } ∷ after → find is_change after ≡ None
+        → mw_at history.life.site inverter grant.write.raw ≤ covers
     unfolding reach
-    act_is_current before after acted grant stand none =
+    act_is_covered before after acted grant stand none =
         let all : events ≡ before ++ record { at = acted; event = Act grant } ∷ (after ++ rest) = cut.parts ∙ ap (λ (ts : List Timed). ts ++ rest) stand ∙ append_assoc before (record { at = acted; event = Act grant } ∷ after) rest in
         let may = device.acts before (after ++ rest) acted grant all in
         let next : find is_change (after ++ rest) ≡ find is_change rest = find-append is_change after rest ∙ ap (λ (o : Option Timed). option_or o (find is_change rest)) none in
-        let ends = subst (λ (o : Option Timed). IsSomeAnd o (λ t. t.at ≤ acted + tmax book.site.rules)) next (device.ends before (after ++ rest) acted grant all) in
-        current_is_reserved grant.write (commissioned_within book grant may.0) may.1 (omega (arith, ends_later acted (find is_change rest) refl ends, may.2, may.3))
+        let ends = subst (λ (o : Option Timed). IsSomeAnd o (λ t. t.at ≤ acted + tmax history.life.site.rules)) next (device.ends before (after ++ rest) acted grant all) in
+        let current : at ≤ grant.write.at + reach history.life.site.rules = omega (arith, ends_later acted (find is_change rest) refl ends, may.2, may.3) in
+        elim (Contains-append_cases (past_grants 0 history.past) (lives_grants 1 (lives history)) grant may.0) [
+          | inl past ↦ past_is_covered grant.write (past_of 0 history.past grant past).within may.1 current
+          | inr lived ↦
+              let fate = lives_fate history.life.site at inverter grant may.1 current 1 (lives history) lived in
+              elim fate.is [
+                | inl stands ↦ standing_le_cover history.life.site at inverter grant.write may.1 current (lives history) (past_cover history) chain stands
+                | inr freed ↦ absurd (freed_not_held grant before after acted may.1 fate.from freed stand none)
+              ]
+        ]
 
-    held_by_event : (last : Timed) (event : Event) → last.event ≡ event → last_that is_change first ≡ Some last → mw_at book.site inverter (held_after (floor_raw_at book.site inverter) event) ≤ reserved book inverter
-    held_by_event last (Act grant) is found =
+    floor_raw_is_covered : mw_at history.life.site inverter (floor_raw_at history.life.site inverter) ≤ covers
+    floor_raw_is_covered = subst (λ (n : ℕ). n ≤ covers) (sym (mw_at-floor history.life.site inverter)) floor_is_covered
+
+    held_by_event : (last : Timed) (event : Event) → last.event ≡ event → last_that is_change first ≡ Some last → mw_at history.life.site inverter (held_after (floor_raw_at history.life.site inverter) event) ≤ covers
+    held_by_event last (Act grant) acts found =
         let stands = last_that-stands is_change first last found in
-        act_is_current stands.before stands.after last.at grant
-        (stands.stand ∙ ap (λ (e : Event). stands.before ++ record { at = last.at; event = e } ∷ stands.after) is) stands.none_after
-    held_by_event last Revert is found = subst (λ (n : ℕ). n ≤ reserved book inverter) (sym (mw_at-floor book.site inverter)) floor_is_reserved
-    held_by_event last (Look sight) is found = subst (λ (n : ℕ). n ≤ reserved book inverter) (sym (mw_at-floor book.site inverter)) floor_is_reserved
+        act_is_covered stands.before stands.after last.at grant
+        (stands.stand ∙ ap (λ (e : Event). stands.before ++ record { at = last.at; event = e } ∷ stands.after) acts) stands.none_after
+    held_by_event last Revert reverts found = floor_raw_is_covered
+    held_by_event last (Look sight) looks found = floor_raw_is_covered
 
-    held_by_last : (last : Option Timed) → last_that is_change first ≡ last → mw_at book.site inverter (held_by (floor_raw_at book.site inverter) last) ≤ reserved book inverter
-    held_by_last None is = subst (λ (n : ℕ). n ≤ reserved book inverter) (sym (mw_at-floor book.site inverter)) floor_is_reserved
-    held_by_last (Some last) is = held_by_event last last.event refl is
+    held_by_last : (last : Option Timed) → last_that is_change first ≡ last → mw_at history.life.site inverter (held_by (floor_raw_at history.life.site inverter) last) ≤ covers
+    held_by_last None none = floor_raw_is_covered
+    held_by_last (Some last) one = held_by_event last last.event refl one
 
-    pub held_is_reserved : held_mw book.site inverter first ≤ reserved book inverter
+    -- what is held is at most the cover
+    pub held_is_covered : held_mw history.life.site inverter first ≤ cover (past_cover history) (lives history) inverter
     unfolding held
-    held_is_reserved = held_by_last (last_that is_change first) refl
+    held_is_covered = held_by_last (last_that is_change first) refl

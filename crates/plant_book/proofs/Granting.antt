@@ -1,6 +1,6 @@
 -- A grant is no greater than what was unreserved.
-use Rattle.std.proofs.Common.{◌≡◌, ℕ, ◌≤◌, Bool, true, false, cond, not, ltb, leb, eqb, length, refl, subst}
-use Rattle.std.proofs.lemmas.Bool.{ltb-false}
+use Rattle.std.proofs.Common.{◌≡◌, ℕ, ◌<◌, ◌≤◌, Bool, true, false, cond, not, ltb, leb, eqb, length, refl, subst}
+use Rattle.std.proofs.lemmas.Bool.{ltb-false, leb-false}
 use Rattle.plant_book.specs.declared.call.Call.{Call}
 use Rattle.plant_book.specs.declared.call.Call.TheVariants as calls
 use Rattle.plant_book.specs.declared.call.Reply.{Reply}
@@ -17,9 +17,11 @@ use Rattle.plant_book.specs.Writes.{live, is_numbered}
 use Rattle.plant_book.specs.Policy.{target}
 use Rattle.std.specs.List.{list_any}
 
--- what a grant at this moment means for the watts
+-- what a grant at this moment is, and means for the silence and the watts
 pub record IsCovered (book : BookRecord) (now : ℕ) (write : writes.Write) : Type 0 where
+  pub is : write ≡ write_at book now write.inverter write.raw
   pub at : write.at ≡ now
+  pub loud : silent_until book < now
   pub fits : raise_at book now write.inverter write.raw ≤ unreserved_at book now
 
 -- where the first answer isn't this one, the test failed and the rest is
@@ -30,16 +32,16 @@ rest_of false x y z other is = (refl, is)
 granted_is : (made write : writes.Write) → replies.Granted made ≡ replies.Granted write → made ≡ write
 granted_is made write is = cc
 
-covered_by : (book : BookRecord) (now inverter raw : ℕ) (write : writes.Write) → raise_at book now inverter raw ≤ unreserved_at book now → write_at book now inverter raw ≡ write → IsCovered book now write
-covered_by book now inverter raw write fits is =
-    subst (λ (w : writes.Write). IsCovered book now w) is (record { at = refl; fits = fits })
+covered_by : (book : BookRecord) (now inverter raw : ℕ) (write : writes.Write) → silent_until book < now → raise_at book now inverter raw ≤ unreserved_at book now → write_at book now inverter raw ≡ write → IsCovered book now write
+covered_by book now inverter raw write loud fits is =
+    subst (λ (w : writes.Write). IsCovered book now w) is (record { is = refl; at = refl; loud = loud; fits = fits })
 
-by_watts : (book : BookRecord) (now inverter raw : ℕ) (write : writes.Write) → reply_by_watts book now inverter raw ≡ replies.Granted write → IsCovered book now write
+by_watts : (book : BookRecord) (now inverter raw : ℕ) (write : writes.Write) → silent_until book < now → reply_by_watts book now inverter raw ≡ replies.Granted write → IsCovered book now write
 unfolding reply_by_watts
-by_watts book now inverter raw write is =
+by_watts book now inverter raw write loud is =
     let watts = rest_of (ltb (unreserved_at book now) (raise_at book now inverter raw)) _ _ (replies.Granted write) (λ no. cc) is in
     let room = rest_of (leb LIVE_MAX (length (live book.site.rules book.entries now inverter))) replies.Crowded (replies.Granted (write_at book now inverter raw)) (replies.Granted write) (λ no. cc) watts.1 in
-    covered_by book now inverter raw write (ltb-false _ _ watts.0) (granted_is (write_at book now inverter raw) write room.1)
+    covered_by book now inverter raw write loud (ltb-false _ _ watts.0) (granted_is (write_at book now inverter raw) write room.1)
 
 by_policy : (book : BookRecord) (now inverter raw : ℕ) (write : writes.Write) → reply_by_policy book now inverter raw ≡ replies.Granted write → IsCovered book now write
 unfolding reply_by_policy
@@ -47,7 +49,7 @@ by_policy book now inverter raw write is =
     let over = rest_of (ltb (full_at book.site inverter) raw) _ _ (replies.Granted write) (λ no. cc) is in
     let silent = rest_of (leb now (silent_until book)) _ _ (replies.Granted write) (λ no. cc) over.1 in
     let allowed = rest_of (ltb (target book inverter) (mw_at book.site inverter raw)) _ _ (replies.Granted write) (λ no. cc) silent.1 in
-    by_watts book now inverter raw write allowed.1
+    by_watts book now inverter raw write (leb-false now (silent_until book) silent.0) allowed.1
 
 by_ask : (book : BookRecord) (now inverter raw : ℕ) (write : writes.Write) → reply_to_ask book now inverter raw ≡ replies.Granted write → IsCovered book now write
 unfolding reply_to_ask

@@ -4,9 +4,12 @@ pub mod Inverters
 pub mod Maxima
 pub mod Standing
 pub mod Granting
+pub mod Freeing
+pub mod Places
+pub mod Looks
+pub mod Cover
 pub mod Cap
 pub mod Last
 pub mod Device
 pub mod Prefix
 pub mod Safe
-pub mod Devices

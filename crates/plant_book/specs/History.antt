@@ -122,6 +122,15 @@ pub record IsHistory (history : History) : Type 0 where
   pub before : AllByRecursion (λ write. write.at ≤ first_start (lives history) history.life.start) history.past
   pub fits : Fits history.life.site history.past
 
--- a plant whose first life began with every inverter at its floor, and is still on
-abbrev pub commissioned : BookRecord → History
-commissioned book = record { past = []; earlier = []; life = book }
+-- a past that a life of this site, begun at this moment, may follow: no write of it is later, and it fits
+pub record IsPast (site : SiteRecord) (start : ℕ) (past : List writes.Write) : Type 0 where
+  pub before : AllByRecursion (λ write. write.at ≤ start) past
+  pub fits : Fits site past
+
+-- one life behind a past, which is still on
+abbrev pub life_after : List writes.Write → BookRecord → History
+life_after past book = record { past = past; earlier = []; life = book }
+
+-- a plant whose first life began with every inverter at its floor
+abbrev pub IsCommissioned : History → Type 0
+IsCommissioned history = history.past ≡ []

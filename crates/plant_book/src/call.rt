@@ -13,7 +13,7 @@ pub const REQUESTS_MAX: u16 = 65_535;
 pub const LIVE_MAX: usize = 32;
 
 /// A limit that was granted: the right to send one write of the six registers of WMaxLimPct.
-#[derive(Clone, Copy, Debug, PartialEq, Eq)]
+#[derive(Clone, Copy, Debug, Default, PartialEq, Eq)]
 pub struct Write {
     pub inverter: u8,
     /// The number of the link on which it may be sent, from 1.

@@ -18,7 +18,7 @@ mod site;
 pub use book::{Book, ENTRY_BYTES_MAX, Entry};
 pub use call::{Call, LIVE_MAX, MOMENT_MAX, REQUESTS_MAX, Read, Reply, WISH_MAX, Write};
 pub use claim::Claim;
-pub use laws::{books_are_safe, devices_exist};
+pub use laws::histories_are_safe;
 pub use port::Port;
 pub use replies::{answer, reserved_plain};
 pub use site::{CAP_MAX, FloorOut, INVERTERS_MAX, Policy, ROOM_MAX, Site, Unit};
