@@ -23,14 +23,14 @@ use Rattle.plant_book.proofs.Standing.{standing-push}
 use Rattle.plant_book.proofs.Granting.{granted_is_covered}
 
 -- a write that is not past its last moment was not past it before
-current_before : (rules : Rules) (old new inverter : ℕ) (write : writes.Write) → old ≤ new → is_current rules new inverter write ≡ true → is_current rules old inverter write ≡ true
+pub current_before : (rules : Rules) (old new inverter : ℕ) (write : writes.Write) → old ≤ new → is_current rules new inverter write ≡ true → is_current rules old inverter write ≡ true
 current_before rules old new inverter write le is =
     let both = and_parts (eqb write.inverter inverter) (leb new (write.at + reach rules)) is in
     and_from (eqb write.inverter inverter) (leb old (write.at + reach rules)) both.0 (le-leb old (write.at + reach rules) (omega (arith, leb-true new (write.at + reach rules) both.1)))
 
 module _ (book : BookRecord) (before : List Entry) (entry : Entry) (old new : ℕ) (le : old ≤ new) where
   -- the writes that stand and are current at the new moment: those of before that aren't ended, and the grant
-  live-push : (inverter : ℕ) → live book.site.rules (before ++ entry ∷ []) new inverter
+  pub live-push : (inverter : ℕ) → live book.site.rules (before ++ entry ∷ []) new inverter
       ≡ filter (is_current book.site.rules new inverter) (filter (λ write. not (ends book.site.rules before entry write)) (standing book.site.rules [] before)) ++ filter (is_current book.site.rules new inverter) (grant_of entry)
   unfolding live
   live-push inverter =
@@ -80,7 +80,7 @@ module _ (book : BookRecord) (before : List Entry) (entry : Entry) (old new : �
       ]
 
 -- a reply grants a write, or it grants none
-grant_cases : (reply : Reply) → ((write : writes.Write) × (reply ≡ replies.Granted write)) ⊎ (granted reply ≡ [])
+pub grant_cases : (reply : Reply) → ((write : writes.Write) × (reply ≡ replies.Granted write)) ⊎ (granted reply ≡ [])
 grant_cases (replies.Linked number) = inr refl
 grant_cases (replies.Granted write) = inl (write, refl)
 grant_cases (replies.ReadAs read) = inr refl

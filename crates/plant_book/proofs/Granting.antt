@@ -7,11 +7,11 @@ use Rattle.plant_book.specs.declared.call.Reply.{Reply}
 use Rattle.plant_book.specs.declared.call.Reply.TheVariants as replies
 use Rattle.plant_book.specs.declared.call.Write as writes
 use Rattle.plant_book.specs.declared.call.TheConstants.{REQUESTS_MAX, LIVE_MAX}
-use Rattle.plant_book.specs.Site.{mw_at, full_at}
+use Rattle.plant_book.specs.Site.{mw_at, full_at, floor_raw_at}
 use Rattle.plant_book.specs.Book.{BookRecord}
 use Rattle.plant_book.specs.Calls.{moment}
 use Rattle.plant_book.specs.Reserved.{unreserved_at}
-use Rattle.plant_book.specs.Answer.{reply_to, reply_to_ask, reply_by_policy, reply_by_watts, reply_to_read, reply_to_saw, reply_to_back, raise_at, write_at, silent_until, is_pending, is_known}
+use Rattle.plant_book.specs.Answer.{reply_to, reply_to_ask, reply_by_policy, reply_by_watts, reply_to_read, reply_to_saw, reply_to_back, raise_at, write_at, silent_until, is_pending, is_raw_of}
 use Rattle.plant_book.specs.Requests.{link_number, requests, pending_read}
 use Rattle.plant_book.specs.Writes.{live, is_numbered}
 use Rattle.plant_book.specs.Policy.{target}
@@ -23,6 +23,7 @@ pub record IsCovered (book : BookRecord) (now : ℕ) (write : writes.Write) : Ty
   pub at : write.at ≡ now
   pub loud : silent_until book < now
   pub fits : raise_at book now write.inverter write.raw ≤ unreserved_at book now
+  pub room : length (live book.site.rules book.entries now write.inverter) < 32
 
 -- where the first answer isn't this one, the test failed and the rest is
 rest_of : (b : Bool) (x y z : Reply) → (x ≡ z → ⊥) → cond b x y ≡ z → (b ≡ false) × (y ≡ z)
@@ -32,16 +33,17 @@ rest_of false x y z other is = (refl, is)
 granted_is : (made write : writes.Write) → replies.Granted made ≡ replies.Granted write → made ≡ write
 granted_is made write is = cc
 
-covered_by : (book : BookRecord) (now inverter raw : ℕ) (write : writes.Write) → silent_until book < now → raise_at book now inverter raw ≤ unreserved_at book now → write_at book now inverter raw ≡ write → IsCovered book now write
-covered_by book now inverter raw write loud fits is =
-    subst (λ (w : writes.Write). IsCovered book now w) is (record { is = refl; at = refl; loud = loud; fits = fits })
+covered_by : (book : BookRecord) (now inverter raw : ℕ) (write : writes.Write) → silent_until book < now → raise_at book now inverter raw ≤ unreserved_at book now
+    → length (live book.site.rules book.entries now inverter) < 32 → write_at book now inverter raw ≡ write → IsCovered book now write
+covered_by book now inverter raw write loud fits room is =
+    subst (λ (w : writes.Write). IsCovered book now w) is (record { is = refl; at = refl; loud = loud; fits = fits; room = room })
 
 by_watts : (book : BookRecord) (now inverter raw : ℕ) (write : writes.Write) → silent_until book < now → reply_by_watts book now inverter raw ≡ replies.Granted write → IsCovered book now write
 unfolding reply_by_watts
 by_watts book now inverter raw write loud is =
     let watts = rest_of (ltb (unreserved_at book now) (raise_at book now inverter raw)) _ _ (replies.Granted write) (λ no. cc) is in
     let room = rest_of (leb LIVE_MAX (length (live book.site.rules book.entries now inverter))) replies.Crowded (replies.Granted (write_at book now inverter raw)) (replies.Granted write) (λ no. cc) watts.1 in
-    covered_by book now inverter raw write loud (ltb-false _ _ watts.0) (granted_is (write_at book now inverter raw) write room.1)
+    covered_by book now inverter raw write loud (ltb-false _ _ watts.0) (leb-false LIVE_MAX (length (live book.site.rules book.entries now inverter)) room.0) (granted_is (write_at book now inverter raw) write room.1)
 
 by_policy : (book : BookRecord) (now inverter raw : ℕ) (write : writes.Write) → reply_by_policy book now inverter raw ≡ replies.Granted write → IsCovered book now write
 unfolding reply_by_policy
@@ -69,7 +71,7 @@ no_grant_by_saw : (book : BookRecord) (now inverter number raw : ℕ) (write : w
 unfolding reply_to_saw
 no_grant_by_saw book now inverter number raw write is =
     let pending = rest_of (not (is_pending (pending_read inverter book.entries) number)) _ _ (replies.Granted write) (λ no. cc) is in
-    let known = rest_of (not (is_known book now inverter raw)) _ _ (replies.Granted write) (λ no. cc) pending.1 in
+    let known = rest_of (not (is_raw_of (floor_raw_at book.site inverter) raw (live book.site.rules book.entries now inverter))) _ _ (replies.Granted write) (λ no. cc) pending.1 in
     let never = known.1 in cc
 
 no_grant_by_back : (book : BookRecord) (now inverter link number : ℕ) (write : writes.Write) → reply_to_back book now inverter link number ≡ replies.Granted write → ⊥

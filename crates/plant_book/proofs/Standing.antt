@@ -7,7 +7,11 @@ use Rattle.limiter_num.specs.declared.rules.Rules.{Rules}
 use Rattle.plant_book.specs.declared.call.Write as writes
 use Rattle.plant_book.specs.declared.book.Entry.{Entry}
 use Rattle.plant_book.specs.Writes.{grant_of, ends, ends_later, standing}
-use Rattle.plant_book.proofs.Built.{filter_all_pass}
+
+-- a filter that every element passes leaves the list
+pub filter_all_pass : {X : Type 0} (p : X → Bool) → ((x : X) → p x ≡ true) → (xs : List X) → filter p xs ≡ xs
+filter_all_pass p passes [] = refl
+filter_all_pass p passes (x ∷ xs) = rw (passes x) (ap (λ (ys : List _). x ∷ ys) (filter_all_pass p passes xs))
 
 or_false : (a : Bool) → (a || false) ≡ a
 or_false true = refl

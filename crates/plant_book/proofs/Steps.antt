@@ -1,6 +1,8 @@
 -- What one more entry at the end of a book changes.
-use Rattle.std.proofs.Common.{◌≡◌, ℕ, ◌+◌, ◌-◌, ◌<◌, Bool, true, false, cond, not, List, [], ◌∷◌, ◌++◌, length, take, drop, get_or, refl, ap, ◌∙◌, arith}
-use Rattle.std.specs.Prelude.{count_by}
+use Rattle.std.proofs.Common.{◌≡◌, ℕ, ◌+◌, ◌-◌, ◌<◌, Bool, true, false, cond, not, List, [], ◌∷◌, ◌++◌, length, take, drop, get_or, Option, Some, None, refl, ap, ◌∙◌, arith}
+use Rattle.std.specs.Prelude.{count_by, find, slice_get}
+use Rattle.std.specs.Option.{option_map_or}
+use Rattle.plant_book.specs.Sums.{last_that}
 use Rattle.std.specs.List.{after_last, prefix_len, suffix_len}
 use Rattle.std.proofs.lemmas.List.{length_push, take_more, drop-append-le, drop_all, reverse-append}
 use Rattle.std.proofs.lemmas.List.Sums.{suffix_len-le-length, sum_by-append}
@@ -52,5 +54,32 @@ module _ (inverter : ℕ) (entries : List Entry) (place : ℕ) (default : Entry)
       → requests inverter (take (place + 1) entries) ≡ requests inverter (take place entries) + cond request 1 0
   requests-more request other is = rw (take_more entries place default within, ← is) (requests-push inverter (take place entries) (get_or entries place default) other)
 
-pub latest-more : (start : ℕ) (entries : List Entry) (place : ℕ) (default : Entry) → place < length entries → latest start (take (place + 1) entries) ≡ moment (get_or entries place default).call
-latest-more start entries place default within = rw (take_more entries place default within) (latest-push start (take place entries) (get_or entries place default))
+-- the last moment is that of the last entry
+latest-last_some : (start default : ℕ) (entry : Entry) (entries : List Entry) → latest start (entry ∷ entries) ≡ option_map_or (λ last. moment last.call) (slice_get (entry ∷ entries) (length entries)) default
+unfolding latest
+latest-last_some start default entry [] = refl
+latest-last_some start default entry (next ∷ entries) = latest-last_some (moment entry.call) default next entries
+
+pub latest-last : (start : ℕ) (entries : List Entry) → latest start entries ≡ option_map_or (λ last. moment last.call) (slice_get entries (length entries - 1)) start
+unfolding latest
+latest-last start [] = refl
+latest-last start (entry ∷ entries) =
+    let place : length entries ≡ length (entry ∷ entries) - 1 = omega arith in
+    latest-last_some start start entry entries ∙ ap (λ (n : ℕ). option_map_or (λ last. moment last.call) (slice_get (entry ∷ entries) n) start) place
+
+-- the last element that passes, of a list with one more at its end
+pub last_that-push : {X : Type 0} (p : X → Bool) (xs : List X) (x : X) → last_that p (xs ++ x ∷ []) ≡ cond (p x) (Some x) (last_that p xs)
+unfolding last_that
+last_that-push p xs x = ap (find p) (reverse-append xs (x ∷ []))
+
+-- the same for the element at a place of a list
+pub last_that-more : {X : Type 0} (p : X → Bool) (xs : List X) (place : ℕ) (default : X) → place < length xs
+    → last_that p (take (place + 1) xs) ≡ cond (p (get_or xs place default)) (Some (get_or xs place default)) (last_that p (take place xs))
+last_that-more p xs place default within = ap (last_that p) (take_more xs place default within) ∙ last_that-push p (take place xs) (get_or xs place default)
+
+module _ {X : Type 0} (p : X → Bool) (xs : List X) (place : ℕ) (default : X) (within : place < length xs) where
+  pub last_that-more_passes : p (get_or xs place default) ≡ true → last_that p (take (place + 1) xs) ≡ Some (get_or xs place default)
+  last_that-more_passes passes = last_that-more p xs place default within ∙ rw passes refl
+
+  pub last_that-more_fails : p (get_or xs place default) ≡ false → last_that p (take (place + 1) xs) ≡ last_that p (take place xs)
+  last_that-more_fails fails = last_that-more p xs place default within ∙ rw fails refl

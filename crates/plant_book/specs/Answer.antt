@@ -9,7 +9,7 @@ use Rattle.plant_book.specs.declared.call.Reply.TheVariants as replies
 use Rattle.plant_book.specs.declared.call.Write as writes
 use Rattle.plant_book.specs.declared.call.Read as reads
 use Rattle.plant_book.specs.declared.call.TheConstants.{REQUESTS_MAX, LIVE_MAX}
-use Rattle.plant_book.specs.Site.{mw_at, floor_raw_at, full_at, raw_at}
+use Rattle.plant_book.specs.Site.{SiteRecord, mw_at, floor_raw_at, full_at, raw_at}
 use Rattle.plant_book.specs.Book.{BookRecord}
 use Rattle.plant_book.specs.Requests.{link_number, requests, pending_read}
 use Rattle.plant_book.specs.Writes.{live, frees, is_numbered}
@@ -63,17 +63,17 @@ reply_to_read book now inverter =
     else if nat_le REQUESTS_MAX (requests inverter book.entries) then replies.Spent
     else replies.ReadAs (record { inverter = inverter; link = link_number inverter book.entries; number = requests inverter book.entries + 1; at = now })
 
--- whether a raw percentage is the floor's or that of a live write of the inverter
-abbrev pub is_known : BookRecord → ℕ → ℕ → ℕ → Bool
-is_known book now inverter raw =
-    (raw == floor_raw_at book.site inverter) || list_any (λ write. write.raw == raw) (live book.site.rules book.entries now inverter)
+-- whether a raw percentage is the floor's or that of one of these writes
+abbrev pub is_raw_of : ℕ → ℕ → List writes.Write → Bool
+is_raw_of floor raw its_writes = (raw == floor) || list_any (λ write. write.raw == raw) its_writes
 
--- the live writes that the pending read frees by this raw percentage, and those that it leaves
-abbrev pub freed_now : BookRecord → ℕ → ℕ → ℕ → List writes.Write
-freed_now book now inverter raw = filter (frees book.site.rules (pending_read inverter book.entries) raw) (live book.site.rules book.entries now inverter)
-
-abbrev pub left_now : BookRecord → ℕ → ℕ → ℕ → List writes.Write
-left_now book now inverter raw = filter (λ write. not (frees book.site.rules (pending_read inverter book.entries) raw write)) (live book.site.rules book.entries now inverter)
+-- the reply to a Saw of this pending read, where these are the live writes: a raw percentage that is neither the floor
+-- nor that of a live write is strange; else the writes that the look settles, and whose raw percentage differs, are free
+abbrev pub reply_to_sight : SiteRecord → ℕ → Option reads.Read → ℕ → List writes.Write → Reply
+reply_to_sight site inverter pending raw its_writes =
+    if not (is_raw_of (floor_raw_at site inverter) raw its_writes) then replies.Strange raw
+    else replies.Freed (length (filter (frees site.rules pending raw) its_writes))
+        (covering site inverter (filter (λ write. not (frees site.rules pending raw write)) its_writes))
 
 abbrev pub is_pending : Option reads.Read → ℕ → Bool
 is_pending None number = false
@@ -83,8 +83,7 @@ is_pending (Some read) number = read.number == number
 unfoldable pub reply_to_saw : BookRecord → ℕ → ℕ → ℕ → ℕ → Reply
 reply_to_saw book now inverter number raw =
     if not (is_pending (pending_read inverter book.entries) number) then replies.NoRead
-    else if not (is_known book now inverter raw) then replies.Strange raw
-    else replies.Freed (length (freed_now book now inverter raw)) (covering book.site inverter (left_now book now inverter raw))
+    else reply_to_sight book.site inverter (pending_read inverter book.entries) raw (live book.site.rules book.entries now inverter)
 
 -- the reply to a Back: whether a live write has these numbers
 unfoldable pub reply_to_back : BookRecord → ℕ → ℕ → ℕ → ℕ → Reply

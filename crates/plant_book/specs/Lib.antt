@@ -6,7 +6,6 @@ pub mod Calls
 pub mod Requests
 pub mod Writes
 pub mod Reserved
-pub mod Shares
 pub mod Policy
 pub mod Answer
 pub mod Answered
@@ -14,3 +13,4 @@ pub mod History
 pub mod Behaviour
 pub mod Held
 pub mod Safe
+pub mod Lifetime

@@ -1,7 +1,7 @@
 -- What the policy allows an inverter.
-use Rattle.std.specs.Prelude.{ℕ, Bool, true, false, ◌==◌, if◌then◌else◌, map, List, Option, Some, None}
+use Rattle.std.specs.Prelude.{ℕ, Bool, true, false, ◌==◌, if◌then◌else◌, map, List, Option, Some, None, is_some, unwrap_or}
 use Rattle.std.specs.List.{range_with_len}
-use Rattle.plant_book.specs.declared.claim.Claim.{Claim}
+use Rattle.share_policy.specs.declared.claim.Claim.{Claim}
 use Rattle.plant_book.specs.declared.call.Call.{Call}
 use Rattle.plant_book.specs.declared.call.Call.TheVariants as calls
 use Rattle.plant_book.specs.declared.call.Reply.{Reply}
@@ -11,7 +11,7 @@ use Rattle.plant_book.specs.Sums.{last_that}
 use Rattle.plant_book.specs.Site.{inverters, floor_at, rated_at}
 use Rattle.plant_book.specs.Book.{BookRecord}
 use Rattle.plant_book.specs.Requests.{is_seen}
-use Rattle.plant_book.specs.Shares.{level_of, target_of}
+use Rattle.share_policy.specs.Shares.{level_of, target_of}
 
 abbrev pub sees : ℕ → Call → Reply → Bool
 sees inverter (calls.Saw at other number raw) reply = if other == inverter then is_seen reply else false
@@ -33,24 +33,21 @@ strange_after (Some entry) = tells_strange entry.reply
 unfoldable pub is_strange : ℕ → List Entry → Bool
 is_strange inverter entries = strange_after (last_that (is_sight inverter) entries)
 
-abbrev pub wants_for : ℕ → Call → Bool
-wants_for inverter (calls.Want at other mw) = other == inverter
-wants_for inverter _ = false
+-- what a call wishes for the inverter, where it does
+abbrev pub wish_by : ℕ → Call → Option ℕ
+wish_by inverter (calls.Want at other mw) = if other == inverter then Some mw else None
+wish_by inverter _ = None
 
 abbrev pub is_want : ℕ → Entry → Bool
-is_want inverter entry = wants_for inverter entry.call
+is_want inverter entry = is_some (wish_by inverter entry.call)
 
-abbrev pub wanted : ℕ → Call → ℕ
-wanted otherwise (calls.Want at inverter mw) = mw
-wanted otherwise _ = otherwise
-
-abbrev pub wish_after : ℕ → Option Entry → ℕ
-wish_after otherwise None = otherwise
-wish_after otherwise (Some entry) = wanted otherwise entry.call
+abbrev pub wish_after : ℕ → ℕ → Option Entry → ℕ
+wish_after otherwise inverter None = otherwise
+wish_after otherwise inverter (Some entry) = unwrap_or (wish_by inverter entry.call) otherwise
 
 -- the wish of an inverter: that of its last Want, or its rating
 unfoldable pub wish : BookRecord → ℕ → ℕ
-wish book inverter = wish_after (rated_at book.site inverter) (last_that (is_want inverter) book.entries)
+wish book inverter = wish_after (rated_at book.site inverter) inverter (last_that (is_want inverter) book.entries)
 
 -- the rating that the policy goes by: the floor for a strange inverter
 unfoldable pub trusted : BookRecord → ℕ → ℕ

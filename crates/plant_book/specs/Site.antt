@@ -3,9 +3,10 @@ use Rattle.std.specs.Prelude.{ℕ, ◌^◌, ◌<◌, ◌≤◌, List, length, sl
 use Rattle.std.specs.Option.{option_map_or}
 use Rattle.limiter_num.specs.declared.rules.Rules.{Rules}
 use Rattle.limiter_num.specs.Rating.{mw, full, rated, raw_at_most}
-use Rattle.plant_book.specs.declared.site.Policy.{Policy}
+use Rattle.share_policy.specs.declared.claim.Policy.{Policy}
 use Rattle.plant_book.specs.declared.site.Unit as unit
 use Rattle.plant_book.specs.declared.site.TheConstants.{CAP_MAX, ROOM_MAX}
+use Rattle.plant_book.specs.Sums.{sum_below}
 
 -- the cap in milliwatts, the rules, the policy, the room of a book, and the inverters by their numbers
 pub record SiteRecord : Type 0 where
@@ -53,3 +54,7 @@ rated_at site inverter = of_inverter site inverter (λ unit. rated unit.rating)
 -- the greatest raw percentage of the inverter whose milliwatts are at most these
 unfoldable pub raw_at : SiteRecord → ℕ → ℕ → ℕ
 raw_at site inverter watts = of_inverter site inverter (λ unit. raw_at_most unit.rating watts)
+
+-- the milliwatts of all floors
+abbrev pub floors : SiteRecord → ℕ
+floors site = sum_below (inverters site) (floor_at site)

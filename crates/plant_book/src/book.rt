@@ -1,11 +1,12 @@
 ghost use Rattle.std.specs.Prelude.{◌≡◌, ◌<◌, ◌≤◌, ◌*◌, ◌^◌, Some, IfOk, List, [], ◌∷◌, ◌++◌, length, slice_get};
-ghost use Rattle.plant_book.specs.Site.{inverters, mw_at, full_at, rated_at, raw_at};
+ghost use Rattle.plant_book.specs.Site.{inverters, mw_at, floor_at, floor_raw_at, full_at, rated_at, raw_at};
 ghost use Rattle.plant_book.specs.Calls.{latest};
 ghost use Rattle.plant_book.specs.Reserved.{now_of};
 
 use crate::call::{Call, Reply};
 use crate::site::{Site, Unit};
 use limiter_num::{NoMemory, Rules};
+use share_policy::Policy;
 use std::alloc::Global;
 use std::marker::Model;
 
@@ -112,6 +113,31 @@ impl Book {
         site.cap
     }
 
+    /// The policy of the site.
+    pub(crate) fn policy(&self) -> Policy
+        ensures { result ≡ self.now.site.policy }
+    {
+        let site = &self.site;
+        site.policy
+    }
+
+    /// The raw percentage of the inverter's floor.
+    pub(crate) fn floor_raw(&self, inverter: u8) -> u16
+        requires { inverter < inverters self.now.site }
+        ensures { result ≡ floor_raw_at self.now.site inverter }
+    {
+        self.unit(inverter).floor
+    }
+
+    /// The milliwatts of the inverter's floor.
+    pub(crate) fn floor(&self, inverter: u8) -> u64
+        requires { inverter < inverters self.now.site }
+        ensures { result ≡ floor_at self.now.site inverter }
+    {
+        let unit = self.unit(inverter);
+        unit.rating.mw(unit.floor)
+    }
+
     /// The milliwatts of a raw percentage at the inverter.
     pub(crate) fn mw(&self, inverter: u8, raw: u16) -> u64
         requires { inverter < inverters self.now.site }
@@ -151,9 +177,8 @@ impl Book {
 fn latest(start: u64, entries: &[Entry]) -> u64
     ensures { result ≡ latest start entries.now }
 {
-    let mut now = start;
-    for entry in entries {
-        now = entry.call.at();
+    match entries.last() {
+        Some(entry) => entry.call.at(),
+        None => start,
     }
-    now
 }

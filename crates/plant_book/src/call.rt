@@ -3,14 +3,22 @@ ghost use Rattle.std.specs.Prelude.{◌≡◌};
 /// The greatest moment, in ms.
 pub const MOMENT_MAX: u64 = limiter_num::MOMENT_MAX;
 
+const _: () = prove!(MOMENT_MAX == 1_000_000_000_000_000);
+
 /// The greatest wish, in mW.
 pub const WISH_MAX: u64 = 100_000_000_000_000;
+
+const _: () = prove!(WISH_MAX == 100_000_000_000_000);
 
 /// How many requests a link takes.
 pub const REQUESTS_MAX: u16 = 65_535;
 
+const _: () = prove!(REQUESTS_MAX == 65_535);
+
 /// How many writes of an inverter may be live at once.
 pub const LIVE_MAX: usize = 32;
+
+const _: () = prove!(LIVE_MAX == 32);
 
 /// A limit that was granted: the right to send one write of the six registers of WMaxLimPct.
 #[derive(Clone, Copy, Debug, Default, PartialEq, Eq)]
@@ -88,7 +96,7 @@ pub enum Call {
 }
 
 impl Call {
-    ghost use Rattle.plant_book.specs.Calls.{moment, at_moment};
+    ghost use Rattle.plant_book.specs.Calls.{moment, named, at_moment};
 
     /// The moment of the call, in ms.
     pub fn at(&self) -> u64
@@ -103,6 +111,21 @@ impl Call {
             | Call::Want { at, .. }
             | Call::Tick { at }
             | Call::Stop { at } => at,
+        }
+    }
+
+    /// The inverter that the call names, if it names one.
+    pub fn inverter(&self) -> Option<u8>
+        ensures { result ≡ named self.now }
+    {
+        match *self {
+            Call::Link { inverter, .. }
+            | Call::Ask { inverter, .. }
+            | Call::Read { inverter, .. }
+            | Call::Saw { inverter, .. }
+            | Call::Back { inverter, .. }
+            | Call::Want { inverter, .. } => Some(inverter),
+            Call::Tick { .. } | Call::Stop { .. } => None,
         }
     }
 

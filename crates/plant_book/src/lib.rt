@@ -6,19 +6,19 @@
 
 mod book;
 mod call;
-mod claim;
-mod counts;
-mod entries;
+mod requests;
+mod live;
 mod laws;
 mod port;
+mod policy;
 mod replies;
 mod reserved;
 mod site;
 
 pub use book::{Book, ENTRY_BYTES_MAX, Entry};
 pub use call::{Call, LIVE_MAX, MOMENT_MAX, REQUESTS_MAX, Read, Reply, WISH_MAX, Write};
-pub use claim::Claim;
 pub use laws::histories_are_safe;
 pub use port::Port;
-pub use replies::{answer, reserved_plain};
-pub use site::{CAP_MAX, FloorOut, INVERTERS_MAX, Policy, ROOM_MAX, Site, Unit};
+pub use replies::{answer, goal_plain, is_stopped, reserved_plain, total_plain};
+pub use share_policy::{Claim, Policy};
+pub use site::{CAP_MAX, FloorOut, INVERTERS_MAX, ROOM_MAX, Site, Unit};

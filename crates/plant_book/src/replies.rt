@@ -1,21 +1,24 @@
-ghost use Rattle.std.specs.Prelude.{◌≡◌, ◌<◌, ◌≤◌, ◌*◌, ◌^◌};
+ghost use Rattle.std.specs.Prelude.{◌≡◌, ◌==◌, ◌<◌, ◌≤◌, ◌*◌, ◌^◌};
+ghost use Rattle.std.specs.List.{list_any};
+ghost use Rattle.plant_book.specs.Calls.{moment};
 ghost use Rattle.plant_book.specs.Site.{inverters};
-ghost use Rattle.plant_book.specs.Reserved.{reserved};
-ghost use Rattle.plant_book.specs.Policy.{target};
+ghost use Rattle.plant_book.specs.Reserved as sums;
+ghost use Rattle.plant_book.specs.Requests as requests;
+ghost use Rattle.plant_book.specs.Writes.{live, is_numbered};
 ghost use Rattle.plant_book.specs.Answer as rule;
-ghost use Rattle.plant_book.specs.Answered.{IsBook, IsBuiltBook, IsNext, IsBuilt};
+ghost use Rattle.plant_book.specs.Answered.{IsBook, IsNext};
 
-use crate::book::Book;
-use crate::call::{Call, LIVE_MAX, REQUESTS_MAX, Reply, Write};
-use crate::counts::{link_number, live_count, requests};
-use crate::reserved::{reserved_at, total_at};
+use crate::book::{Book, Entry};
+use crate::call::{Call, LIVE_MAX, REQUESTS_MAX, Read, Reply, Write};
+use crate::live::{LiveWrites, is_numbered, left_by, live_writes};
+use crate::policy::target;
+use crate::requests::{link_number, pending_read, requests};
+use crate::reserved::{covering, reserved_at, total_at};
 
 /// The reply to a call that is entered behind a book, computed from the whole list.
 pub fn answer(book: &Book, call: &Call) -> Reply
     requires book { IsBook book.now }
-    requires built_book { IsBuiltBook book.now }
     requires next { IsNext book.now.site book.now.start book.now.entries call.now }
-    requires built { IsBuilt call.now }
     ensures { result ≡ rule.reply_to book.now call.now }
 {
     match *call {
@@ -23,8 +26,21 @@ pub fn answer(book: &Book, call: &Call) -> Reply
             link_number(book.entries(), inverter) as u32 + 1,
         ),
         Call::Ask { at, inverter, raw } => reply_to_ask(book, at, inverter, raw),
+        Call::Read { at, inverter } => reply_to_read(book, at, inverter),
+        Call::Saw {
+            at,
+            inverter,
+            number,
+            raw,
+        } => reply_to_saw(book, at, inverter, number, raw),
+        Call::Back {
+            at,
+            inverter,
+            link,
+            number,
+        } => reply_to_back(book, at, inverter, link, number),
         Call::Tick { at } => Reply::Total(total_at(book, at)),
-        _ => unreachable!(),
+        Call::Want { .. } | Call::Stop { .. } => Reply::Taken,
     }
 }
 
@@ -32,7 +48,7 @@ pub fn answer(book: &Book, call: &Call) -> Reply
 #[tactic(auto, unfolding(crate::specs::Answer::reply_to_ask))]
 fn reply_to_ask(book: &Book, now: u64, inverter: u8, raw: u16) -> Reply
     requires book { IsBook book.now }
-    requires built { IsBuiltBook book.now }
+    requires later { sums.now_of book.now ≤ now }
     requires of_site { inverter < inverters book.now.site }
     ensures { result ≡ rule.reply_to_ask book.now now inverter raw }
 {
@@ -58,7 +74,7 @@ fn reply_to_ask(book: &Book, now: u64, inverter: u8, raw: u16) -> Reply
 #[tactic(auto, unfolding(crate::specs::Answer::reply_by_policy))]
 fn reply_by_policy(book: &Book, write: &Write) -> Reply
     requires book { IsBook book.now }
-    requires built { IsBuiltBook book.now }
+    requires later { sums.now_of book.now ≤ write.now.at }
     requires of_site { write.now.inverter < inverters book.now.site }
     requires write { write.now ≡ rule.write_at book.now write.now.at write.now.inverter write.now.raw }
     ensures { result ≡ rule.reply_by_policy book.now write.now.at write.now.inverter write.now.raw }
@@ -82,7 +98,7 @@ fn reply_by_policy(book: &Book, write: &Write) -> Reply
 #[tactic(auto, unfolding(crate::specs::Answer::reply_by_watts, crate::specs::Reserved::unreserved_at))]
 fn reply_by_watts(book: &Book, write: &Write) -> Reply
     requires book { IsBook book.now }
-    requires built { IsBuiltBook book.now }
+    requires later { sums.now_of book.now ≤ write.now.at }
     requires of_site { write.now.inverter < inverters book.now.site }
     requires write { write.now ≡ rule.write_at book.now write.now.at write.now.inverter write.now.raw }
     ensures { result ≡ rule.reply_by_watts book.now write.now.at write.now.inverter write.now.raw }
@@ -92,28 +108,158 @@ fn reply_by_watts(book: &Book, write: &Write) -> Reply
     if reserved.max(book.mw(write.inverter, write.raw)) - reserved > unreserved {
         return Reply::NoWatts(unreserved);
     }
-    if live_count(book.entries(), &book.rules(), write.at, write.inverter) >= LIVE_MAX {
+    if live_writes(book, write.at, write.inverter).len() >= LIVE_MAX {
         return Reply::Crowded;
     }
     Reply::Granted(*write)
 }
 
-/// The greatest limit that the policy allows the inverter, in mW.
-fn target(book: &Book, inverter: u8) -> u64
-    requires built { IsBuiltBook book.now }
-    requires of_site { inverter < inverters book.now.site }
-    ensures { result ≡ target book.now inverter }
+/// The reply to a Read: a link with requests left is wanted.
+#[tactic(auto, unfolding(crate::specs::Answer::reply_to_read))]
+fn reply_to_read(book: &Book, now: u64, inverter: u8) -> Reply
+    requires book { IsBook book.now }
+    ensures { result ≡ rule.reply_to_read book.now now inverter }
 {
-    book.rated(inverter)
+    let link = link_number(book.entries(), inverter);
+    if link == 0 {
+        return Reply::Unlinked;
+    }
+    let count = requests(book.entries(), inverter);
+    if count >= usize::from(REQUESTS_MAX) {
+        return Reply::Spent;
+    }
+    Reply::ReadAs(Read {
+        inverter,
+        link: link as u32,
+        number: count as u16 + 1,
+        at: now,
+    })
+}
+
+/// The reply to a Saw: a pending read of this number is wanted.
+#[tactic(auto, unfolding(crate::specs::Answer::reply_to_saw))]
+fn reply_to_saw(book: &Book, now: u64, inverter: u8, number: u16, raw: u16) -> Reply
+    requires book { IsBook book.now }
+    requires later { sums.now_of book.now ≤ now }
+    requires of_site { inverter < inverters book.now.site }
+    ensures { result ≡ rule.reply_to_saw book.now now inverter number raw }
+{
+    let pending = pending_read(book.entries(), inverter);
+    if !is_pending(&pending, number) {
+        return Reply::NoRead;
+    }
+    let live = live_writes(book, now, inverter);
+    reply_to_sight(book, inverter, pending, raw, &live)
+}
+
+/// The reply to a Saw of the pending read, where these are the live writes: their raw percentages are known.
+fn reply_to_sight(
+    book: &Book,
+    inverter: u8,
+    pending: Option<Read>,
+    raw: u16,
+    live: &LiveWrites,
+) -> Reply
+    requires of_site { inverter < inverters book.now.site }
+    ensures { result ≡ rule.reply_to_sight book.now.site inverter pending raw live.now.items }
+{
+    if !is_known(book.floor_raw(inverter), live, raw) {
+        return Reply::Strange(raw);
+    }
+    let left = left_by(&book.rules(), pending, raw, live);
+    Reply::Freed {
+        count: (live.len() - left.len()) as u8,
+        reserved: covering(book, inverter, left.as_slice()),
+    }
+}
+
+/// Whether the pending read has this number.
+fn is_pending(pending: &Option<Read>, number: u16) -> bool
+    ensures { result ≡ rule.is_pending pending.now number }
+{
+    matches!(pending, Some(read) if read.number == number)
+}
+
+/// Whether a raw percentage is the floor's or that of one of the live writes.
+fn is_known(floor: u16, live: &LiveWrites, raw: u16) -> bool
+    ensures { result ≡ rule.is_raw_of floor raw live.now.items }
+{
+    raw == floor || has_raw(live.as_slice(), raw)
+}
+
+/// Whether one of the writes has this raw percentage.
+fn has_raw(writes: &[Write], raw: u16) -> bool
+    ensures { result ≡ list_any (λ write. write.raw == raw) writes.now }
+{
+    writes.iter().any(|write| write.raw == raw)
+}
+
+/// The reply to a Back: a live write of these numbers is wanted.
+#[tactic(auto, unfolding(crate::specs::Answer::reply_to_back))]
+fn reply_to_back(book: &Book, now: u64, inverter: u8, link: u32, number: u16) -> Reply
+    requires book { IsBook book.now }
+    requires later { sums.now_of book.now ≤ now }
+    ensures { result ≡ rule.reply_to_back book.now now inverter link number }
+{
+    let live = live_writes(book, now, inverter);
+    if has_numbers(live.as_slice(), inverter, link, number) {
+        Reply::Taken
+    } else {
+        Reply::NoWrite
+    }
+}
+
+/// Whether one of the writes has these numbers.
+fn has_numbers(writes: &[Write], inverter: u8, link: u32, number: u16) -> bool
+    ensures { result ≡ list_any (is_numbered inverter link number) writes.now }
+{
+    writes
+        .iter()
+        .any(|write| is_numbered(write, inverter, link, number))
 }
 
 /// What is reserved for the inverter at the last moment of the book, in mW.
 pub fn reserved_plain(book: &Book, inverter: u8) -> u64
     requires book { IsBook book.now }
-    requires built_book { IsBuiltBook book.now }
     requires of_site { inverter < inverters book.now.site }
-    ensures watts { result ≡ reserved book.now inverter }
+    ensures watts { result ≡ sums.reserved book.now inverter }
     ensures below { result ≤ 65535 * 10 ^ 12 }
 {
     reserved_at(book, book.latest(), inverter)
+}
+
+/// What is reserved in all at the last moment of the book, in mW.
+pub fn total_plain(book: &Book) -> u64
+    requires { IsBook book.now }
+    ensures { result ≡ sums.total book.now }
+{
+    total_at(book, book.latest())
+}
+
+/// The raw percentage that the inverter may aim at, at the last moment of the book.
+#[tactic(auto, unfolding(crate::specs::Answer::goal_raw, crate::specs::Reserved::unreserved_at))]
+pub fn goal_plain(book: &Book, inverter: u8) -> u16
+    requires book { IsBook book.now }
+    requires of_site { inverter < inverters book.now.site }
+    ensures { result ≡ rule.goal_raw book.now inverter }
+{
+    let now = book.latest();
+    let unreserved = book.cap().saturating_sub(total_at(book, now));
+    let most = reserved_at(book, now, inverter) + unreserved;
+    book.raw_at_most(inverter, target(book, inverter).min(most))
+}
+
+/// Whether a Stop stands in the book.
+#[tactic(auto, unfolding(crate::specs::Answer::is_stopped))]
+pub fn is_stopped(book: &Book) -> bool
+    ensures { result ≡ rule.is_stopped book.now }
+{
+    book.entries().iter().any(is_stop)
+}
+
+/// Whether the entry is a Stop.
+fn is_stop(entry: &Entry) -> bool
+    ensures { result ≡ rule.stops entry.now.call }
+{
+    matches!(entry.call, Call::Stop { .. })
 }

@@ -1,52 +1,53 @@
-ghost use Rattle.std.specs.Prelude.{◌≡◌, ◌≤◌, ◌<◌, ◌*◌, ◌^◌, fold, map, max, length};
-ghost use Rattle.std.specs.List.{AllByRecursion};
+ghost use Rattle.std.specs.Prelude.{◌≡◌, ◌≤◌, ◌<◌, ◌*◌, ◌^◌, fold, map, max};
 ghost use Rattle.limiter_num.specs.Rating.{mw};
-ghost use Rattle.plant_book.specs.Writes.{live};
 ghost use Rattle.plant_book.specs.Site.{inverters};
 ghost use Rattle.plant_book.specs.Reserved as sums;
-ghost use Rattle.plant_book.specs.Answered.{IsBuilt, IsBuiltBook};
+ghost use Rattle.plant_book.specs.Answered.{IsBook};
 
-use crate::book::{Book, Entry};
-use crate::entries::current_grant;
+use crate::book::Book;
+use crate::call::Write;
+use crate::live::live_writes;
 use crate::site::Unit;
-use limiter_num::Rules;
 
-/// The greatest of the floor and the limits of the live writes of the inverter, in mW.
-fn covering(unit: &Unit, rules: &Rules, entries: &[Entry], now: u64, inverter: u8) -> u64
-    requires { AllByRecursion (λ entry. IsBuilt entry.call) entries.now }
-    ensures watts { result ≡ fold max (mw unit.now.rating unit.now.floor) (map (λ write. mw unit.now.rating write.raw) (live rules.now entries.now now inverter)) }
+/// The greatest of the floor and the limits of these writes, in mW.
+fn greatest(unit: &Unit, writes: &[Write]) -> u64
+    ensures watts { result ≡ fold max (mw unit.now.rating unit.now.floor)
+        (map (λ write. mw unit.now.rating write.raw) writes.now) }
     ensures below { result ≤ 65535 * 10 ^ 12 }
 {
     let rating = &unit.rating;
     let mut most = rating.mw(unit.floor);
-    for entry in entries {
-        if let Some(write) = current_grant(entry, rules, now, inverter) {
-            most = most.max(rating.mw(write.raw));
-        }
+    for write in writes {
+        most = most.max(rating.mw(write.raw));
     }
     most
 }
 
-/// What is reserved for the inverter at the moment, in mW.
-pub fn reserved_at(book: &Book, now: u64, inverter: u8) -> u64
+/// The greatest of the inverter's floor and the limits of these writes, in mW.
+pub fn covering(book: &Book, inverter: u8, writes: &[Write]) -> u64
     requires of_site { inverter < inverters book.now.site }
-    requires built { IsBuiltBook book.now }
+    ensures watts { result ≡ sums.covering book.now.site inverter writes.now }
+    ensures below { result ≤ 65535 * 10 ^ 12 }
+{
+    greatest(book.unit(inverter), writes)
+}
+
+/// What is reserved for the inverter at a moment from the last of the book on, in mW.
+#[tactic(auto, unfolding(crate::specs::Reserved::reserved_at))]
+pub fn reserved_at(book: &Book, now: u64, inverter: u8) -> u64
+    requires book { IsBook book.now }
+    requires later { sums.now_of book.now ≤ now }
+    requires of_site { inverter < inverters book.now.site }
     ensures watts { result ≡ sums.reserved_at book.now now inverter }
     ensures below { result ≤ 65535 * 10 ^ 12 }
 {
-    covering(
-        book.unit(inverter),
-        &book.rules(),
-        book.entries(),
-        now,
-        inverter,
-    )
+    covering(book, inverter, live_writes(book, now, inverter).as_slice())
 }
 
-/// What is reserved in all at the moment, in mW.
+/// What is reserved in all at a moment from the last of the book on, in mW.
 pub fn total_at(book: &Book, now: u64) -> u64
-    requires few { inverters book.now.site ≤ 64 }
-    requires built { IsBuiltBook book.now }
+    requires book { IsBook book.now }
+    requires later { sums.now_of book.now ≤ now }
     ensures { result ≡ sums.total_at book.now now }
 {
     let mut total = 0;

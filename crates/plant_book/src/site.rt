@@ -1,17 +1,25 @@
-ghost use Rattle.std.specs.Prelude.{◌≡◌, ◌≤◌, ◌<◌, ◌^◌, MatchResult, IfOk, vec_len};
+ghost use Rattle.std.specs.Prelude.{◌≡◌, ◌≤◌, ◌<◌, ◌^◌, MatchResult, IfOk, vec_len, length, sum_by};
+ghost use Rattle.limiter_num.specs.Rating.{mw};
 ghost use Rattle.limiter_num.specs.Milliwatts.{full_of};
 
 use limiter_num::{Rating, Rules};
+use share_policy::Policy;
 use std::marker::Model;
 
 /// The greatest cap of a site, in mW.
 pub const CAP_MAX: u64 = 100_000_000_000_000;
 
+const _: () = prove!(CAP_MAX == 100_000_000_000_000);
+
 /// The greatest count of calls for which a book has room.
 pub const ROOM_MAX: u32 = 1_048_576;
 
+const _: () = prove!(ROOM_MAX == 1_048_576);
+
 /// How many inverters a plant has at most.
 pub const INVERTERS_MAX: usize = 64;
+
+const _: () = prove!(INVERTERS_MAX == 64);
 
 /// A floor above the greatest raw percentage of its rating.
 #[derive(Clone, Copy, Debug, PartialEq, Eq)]
@@ -44,15 +52,6 @@ impl Unit {
     }
 }
 
-/// How the watts that are free are shared.
-#[derive(Clone, Copy, Debug, PartialEq, Eq)]
-pub enum Policy {
-    /// Each inverter may ask for its rating.
-    Open,
-    /// Each inverter may ask for its max-min fair share by the wishes.
-    Fair,
-}
-
 /// A plant behind one grid connection. It is always as `new` makes it.
 #[derive(Debug, Drop)]
 pub struct Site {
@@ -78,6 +77,9 @@ impl Model for Site {
 }
 
 impl Site {
+    ghost use Rattle.plant_book.specs.Site.{inverters, floors};
+
+    /// Takes a cap of at most 10^14 mW, a room from 1 to 1,048,576 calls, and fewer than 2^32 inverters.
     pub fn new(cap: u64, rules: Rules, policy: Policy, room: u32, units: Vec<Unit>) -> Site
         requires cap { cap ≤ CAP_MAX }
         requires room_low { 1 ≤ room }
@@ -93,4 +95,24 @@ impl Site {
             units,
         }
     }
+
+    /// The milliwatts of all floors.
+    pub fn floors(&self) -> u64
+        requires { inverters self.now ≤ 64 }
+        ensures { result ≡ floors self.now }
+    {
+        floors(&self.units)
+    }
+}
+
+/// The milliwatts of the floors of these inverters.
+fn floors(units: &[Unit]) -> u64
+    requires { length units.now ≤ 64 }
+    ensures { result ≡ sum_by (λ unit. mw unit.rating unit.floor) units.now }
+{
+    let mut total = 0;
+    for unit in units {
+        total += unit.rating.mw(unit.floor);
+    }
+    total
 }

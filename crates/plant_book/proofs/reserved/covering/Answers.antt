@@ -1,8 +1,6 @@
-use Rattle.std.proofs.lemmas.List.{take_all}
-use Rattle.plant_book.proofs.Built.{live-built}
+use Rattle.std.proofs.Common.{sym, ◌∙◌}
+use Rattle.plant_book.proofs.Inverters.{covering-is}
 use Rattle.plant_book.proofs.reserved.covering.Goals as goal
 
 pub returns-clause-watts : goal.returns-clause-watts
-returns-clause-watts c =
-    let all = take_all c.loop-entry.entry-index c.args.entries.now c.loop-entry-test.false in
-    rw (live-built c.args.rules.now c.args.entries.now c.args.now c.args.inverter c.requires, ← all) c.loop-entry.invariant.watts
+returns-clause-watts c = c.greatest.ensures.watts ∙ sym (covering-is c.args.book.now.site c.args.inverter c.unit.result.now c.unit.ensures c.args.writes.now)

@@ -1,0 +1,3 @@
+pub mod Greatest
+pub mod Totals
+pub mod Levels
