@@ -12,7 +12,7 @@ use Rattle.std.proofs.Math.Nat.{div-mul-le_self, mul-le-mul_left}
 use Rattle.limiter_num.specs.declared.rules.Rules.{Rules}
 use Rattle.limiter_num.specs.Timers.{tmin, tmax, last_act}
 use Rattle.plant_book.specs.Sums.{last_that}
-use Rattle.plant_book.specs.History.{History, Grant, Sight, grants, sights, is_granted_after}
+use Rattle.plant_book.specs.History.{History, Grant, Sight, grants, sights, is_granted_after, link_of_grant, link_of_sight}
 use Rattle.plant_book.specs.Behaviour.{Event, Act, Revert, Look, Timed, is_change, changes, IsAct, IsAsked, Precedes, IsBehaviour, is_look_of, held}
 use Rattle.plant_book.proofs.Places.{last_that-is, find_none-append}
 
@@ -240,3 +240,86 @@ start_of history inverter events rest device = record {
   reverts = λ before after at is. device.reverts before (after ++ rest) at (longer events rest before _ after is);
   shown = λ before after at sight is. device.shown before (after ++ rest) at sight (longer events rest before _ after is);
 }
+
+-- a fact of each element, by one that implies it, or that holds of all
+pub all_map : {X : Type 0} (P Q : X → Type 0) → ((x : X) → P x → Q x) → (xs : List X) → AllByRecursion P xs → AllByRecursion Q xs
+all_map P Q implies [] all = tt
+all_map P Q implies (x ∷ xs) all = (implies x all.0, all_map P Q implies xs all.1)
+
+pub all_of : {X : Type 0} (P : X → Type 0) → ((x : X) → P x) → (xs : List X) → AllByRecursion P xs
+all_of P each [] = tt
+all_of P each (x ∷ xs) = (each x, all_of P each xs)
+
+pub all_push : {X : Type 0} (P : X → Type 0) (xs : List X) (x : X) → AllByRecursion P xs → P x → AllByRecursion P (xs ++ x ∷ [])
+all_push P [] x all fact = (fact, tt)
+all_push P (y ∷ xs) x all fact = (all.0, all_push P xs x all.1 fact)
+
+grants_alike : (a b : Grant) → Act a ≡ Act b → a ≡ b
+grants_alike a b is = cc
+
+sights_alike : (a b : Sight) → Look a ≡ Look b → a ≡ b
+sights_alike a b is = cc
+
+module _ (history : History) (inverter : ℕ) (events : List Timed) (at : ℕ) (in_order : AllByRecursion (λ timed. timed.at ≤ at) events) where
+  -- a write may act
+  pub act_may : (grant : Grant) → Contains (grants history) grant → grant.write.inverter ≡ inverter → grant.write.at ≤ at → at ≤ last_act history.life.site.rules grant.write.at
+      → AllByRecursion (λ timed. (number : ℕ) → IsAsked timed.event (link_of_grant grant) number → number ≤ grant.write.number) events
+      → ((before after : List Timed) (acted : ℕ) (other : Grant) → events ≡ before ++ record { at = acted; event = Act other } ∷ after → find is_change after ≡ None → at ≤ acted + tmax history.life.site.rules)
+      → MayCome history inverter events (record { at = at; event = Act grant })
+  act_may grant granted its from until numbers ends = record {
+    in_order = in_order;
+    acts = λ moment other is.
+        let same : grant ≡ other = grants_alike grant other (ap (λ (t : Timed). t.event) is) in
+        let then : at ≡ moment = ap (λ (t : Timed). t.at) is in
+        subst (λ (g : Grant). Contains (grants history) g × (g.write.inverter ≡ inverter) × (g.write.at ≤ moment) × (moment ≤ last_act history.life.site.rules g.write.at)) same
+        (granted, its, omega (arith, from, then), omega (arith, until, then));
+    numbers = all_map _ _ (λ timed rises link one other a b. omega (arith, rises one (subst (λ (l : ℕ × ℕ). IsAsked timed.event l one) (sym b.0) a), b.1)) events numbers;
+    looks = λ moment sight is. absurd (let never = ap (λ (t : Timed). t.event) is in cc);
+    looks_first = all_of _ (λ timed sight other a b. absurd cc) events;
+    ends = λ before after acted other is none change. ends before after acted other is none;
+    reverts = λ moment is. absurd (let never = ap (λ (t : Timed). t.event) is in cc);
+    shown = λ moment sight is. absurd (let never = ap (λ (t : Timed). t.event) is in cc);
+  }
+
+  -- the timer of the last Act may run out
+  pub revert_may : (acted : ℕ) (grant : Grant) → last_that is_change events ≡ Some (record { at = acted; event = Act grant })
+      → acted + tmin history.life.site.rules ≤ at → at ≤ acted + tmax history.life.site.rules → MayCome history inverter events (record { at = at; event = Revert })
+  revert_may acted grant last from until = record {
+    in_order = in_order;
+    acts = λ moment other is. absurd (let never = ap (λ (t : Timed). t.event) is in cc);
+    numbers = all_of _ (λ timed link one other a b. absurd b) events;
+    looks = λ moment sight is. absurd (let never = ap (λ (t : Timed). t.event) is in cc);
+    looks_first = all_of _ (λ timed sight other a b. absurd cc) events;
+    ends = λ before after moment other is none change.
+        let same : Some (record { at = moment; event = Act other }) ≡ Some (record { at = acted; event = Act grant }) =
+            sym (ap (last_that is_change) is ∙ last_that-is is_change before (record { at = moment; event = Act other }) after refl none) ∙ last in
+        let then : moment ≡ acted = ap (λ (t : Timed). t.at) (some_alike _ _ same) in
+        omega (arith, then, until);
+    reverts = λ moment is.
+        let then : at ≡ moment = ap (λ (t : Timed). t.at) is in
+        subst (λ (o : Option Timed). IsSomeAnd o (λ t. IsAct t.event × (t.at + tmin history.life.site.rules ≤ moment) × (moment ≤ t.at + tmax history.life.site.rules))) (sym last)
+        (tt, omega (arith, from, then), omega (arith, until, then));
+    shown = λ moment sight is. absurd (let never = ap (λ (t : Timed). t.event) is in cc);
+  }
+    where
+      some_alike : (a b : Timed) → Some a ≡ Some b → a ≡ b
+      some_alike a b is = cc
+
+  -- an answered read may be looked at
+  pub look_may : (sight : Sight) → Contains (sights history) sight → sight.read.inverter ≡ inverter → sight.read.at ≤ at → at ≤ sight.at
+      → AllByRecursion (λ timed. (number : ℕ) → IsAsked timed.event (link_of_sight sight) number → number ≤ sight.read.number) events
+      → AllByRecursion (λ timed. (grant : Grant) → timed.event ≡ Act grant → is_granted_after sight grant ≡ false) events
+      → held history.life.site inverter events ≡ sight.raw → MayCome history inverter events (record { at = at; event = Look sight })
+  look_may sight seen its from until numbers not_after shows = record {
+    in_order = in_order;
+    acts = λ moment grant is. absurd (let never = ap (λ (t : Timed). t.event) is in cc);
+    numbers = all_map _ _ (λ timed rises link one other a b. omega (arith, rises one (subst (λ (l : ℕ × ℕ). IsAsked timed.event l one) (sym b.0) a), b.1)) events numbers;
+    looks = λ moment other is.
+        let same : sight ≡ other = sights_alike sight other (ap (λ (t : Timed). t.event) is) in
+        let then : at ≡ moment = ap (λ (t : Timed). t.at) is in
+        subst (λ (s : Sight). Contains (sights history) s × (s.read.inverter ≡ inverter) × (s.read.at ≤ moment) × (moment ≤ s.at)) same (seen, its, omega (arith, from, then), omega (arith, until, then));
+    looks_first = all_map _ _ (λ timed first other grant a b. subst (λ (s : Sight). is_granted_after s grant ≡ false) (sights_alike sight other b) (first grant a)) events not_after;
+    ends = λ before after moment other is none change. absurd cc;
+    reverts = λ moment is. absurd (let never = ap (λ (t : Timed). t.event) is in cc);
+    shown = λ moment other is. shows ∙ ap (λ (s : Sight). s.raw) (sights_alike sight other (ap (λ (t : Timed). t.event) is));
+  }

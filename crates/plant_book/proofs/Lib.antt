@@ -7,6 +7,7 @@ pub mod Granting
 pub mod Freeing
 pub mod Places
 pub mod Growing
+pub mod Behaviours
 pub mod Looks
 pub mod Cover
 pub mod Claims

@@ -97,3 +97,30 @@ abbrev pub acts_last : Rules → Grant → List Timed
 acts_last rules grant =
     record { at = last_act rules grant.write.at; event = Act grant }
     ∷ record { at = last_act rules grant.write.at + tmax rules; event = Revert } ∷ []
+
+-- a write that acts, a look while it is held, and the longest timer after the Act the Revert
+abbrev pub acts_and_shows : Rules → Grant → Sight → ℕ → ℕ → List Timed
+acts_and_shows rules grant sight acted looked =
+    record { at = acted; event = Act grant } ∷ record { at = looked; event = Look sight } ∷ record { at = acted + tmax rules; event = Revert } ∷ []
+
+-- no read of the inverter was answered
+abbrev pub IsUnseen : History → ℕ → Type 0
+IsUnseen history inverter = (sight : Sight) → Contains (sights history) sight → sight.read.inverter ≡ inverter → ⊥
+
+-- The only answered read of an inverter may have shown a write that acted at this moment and was looked at at this one:
+-- the write was not granted behind the Saw, on its link it is no later request, and its raw percentage was shown.
+pub record MayShow (history : History) (inverter : ℕ) (grant : Grant) (sight : Sight) (acted looked : ℕ) : Type 0 where
+  pub granted : Contains (grants history) grant
+  pub its_write : grant.write.inverter ≡ inverter
+  pub acts_from : grant.write.at ≤ acted
+  pub acts_until : acted ≤ last_act history.life.site.rules grant.write.at
+  pub seen : Contains (sights history) sight
+  pub its_read : sight.read.inverter ≡ inverter
+  pub looks_from : sight.read.at ≤ looked
+  pub looks_until : looked ≤ sight.at
+  pub held_from : acted ≤ looked
+  pub held_until : looked ≤ acted + tmax history.life.site.rules
+  pub shown : grant.write.raw ≡ sight.raw
+  pub not_after : is_granted_after sight grant ≡ false
+  pub in_order : link_of_grant grant ≡ link_of_sight sight → grant.write.number ≤ sight.read.number
+  pub only : (other : Sight) → Contains (sights history) other → other.read.inverter ≡ inverter → other ≡ sight

@@ -1,8 +1,35 @@
-ghost use Rattle.std.specs.Prelude.{◌≡◌, ℕ, [], Contains};
-ghost use Rattle.plant_book.specs.History.{History, IsHistory};
+ghost use Rattle.std.specs.Prelude.{◌≡◌, ℕ, List, [], ◌∷◌, ◌++◌, Contains};
+ghost use Rattle.plant_book.specs.declared.book.Entry.{Entry};
+ghost use Rattle.plant_book.specs.Book.{BookRecord};
+ghost use Rattle.plant_book.specs.Answered.{IsBook, IsNext, IsAnswer, with_entries};
+ghost use Rattle.plant_book.specs.Lifetime.{LiveOn, ChangesNothing};
+ghost use Rattle.plant_book.specs.History.{History, Grant, Sight, grants, IsHistory};
+ghost use Rattle.plant_book.specs.Behaviour.{IsBehaviour, IsUnseen, MayShow, acts_last, acts_and_shows};
 ghost use Rattle.plant_book.specs.Safe.{IsSafeAlways};
 
 /// Every history is safe at every moment: whatever past it has that fits, and however often the plant was restarted.
 pub fn histories_are_safe()
     ensures { (history : History) → IsHistory history → IsSafeAlways history }
+{}
+
+/// The timed device is no empty premise. An inverter of which no read was answered may have done nothing, and each
+/// write that may act may have acted at the last moment at which it may. A write may have acted and then been shown by
+/// the only answered read.
+pub fn behaviours_exist()
+    ensures idle { (history : History) (inverter : ℕ) → IsUnseen history inverter → IsBehaviour history inverter [] }
+    ensures last { (history : History) (inverter : ℕ) (grant : Grant) → IsUnseen history inverter
+        → Contains (grants history) grant → grant.write.inverter ≡ inverter
+        → IsBehaviour history inverter (acts_last history.life.site.rules grant) }
+    ensures shown { (history : History) (inverter : ℕ) (grant : Grant) (sight : Sight) (acted looked : ℕ)
+        → MayShow history inverter grant sight acted looked
+        → IsBehaviour history inverter (acts_and_shows history.life.site.rules grant sight acted looked) }
+{}
+
+/// A reservation stays until its write is given back, freed or past, and is gone at that very call. A refused call
+/// changes no reservation beyond what is past by its moment.
+pub fn reservations_live_on()
+    ensures lifetime { (book : BookRecord) (entry : Entry) → IsNext book.site book.start book.entries entry.call
+        → IsAnswer book book.entries entry → LiveOn book entry (with_entries book (book.entries ++ entry ∷ [])) }
+    ensures refused { (book : BookRecord) (entry : Entry) → IsNext book.site book.start book.entries entry.call
+        → IsAnswer book book.entries entry → ChangesNothing book entry (with_entries book (book.entries ++ entry ∷ [])) }
 {}

@@ -3,21 +3,15 @@ use Rattle.std.specs.Prelude.{ℕ, nat_lt, ◌==◌, if◌then◌else◌, Option
 use Rattle.plant_book.specs.declared.call.Reply.{Reply}
 use Rattle.plant_book.specs.declared.call.Reply.TheVariants as replies
 use Rattle.plant_book.specs.declared.call.Write as writes
-use Rattle.plant_book.specs.declared.site.TheConstants.{INVERTERS_MAX}
-use Rattle.plant_book.specs.Sums.{sum_below}
-use Rattle.plant_book.specs.Site.{SiteRecord, inverters, floor_at}
-use Rattle.plant_ledger.specs.declared.plant.OpenFault.{OpenFault}
-use Rattle.plant_ledger.specs.declared.plant.OpenFault.TheVariants.{NoInverter, TooManyInverters, FloorsOverCap}
-
--- the milliwatts of all floors
-abbrev pub floors : SiteRecord → ℕ
-floors site = sum_below (inverters site) (floor_at site)
+use Rattle.plant_book.specs.Site.{SiteRecord, inverters, floors}
+use Rattle.plant_ledger.specs.declared.opening.OpenFault.{OpenFault}
+use Rattle.plant_ledger.specs.declared.opening.OpenFault.TheVariants.{NoInverter, TooManyInverters, FloorsOverCap}
 
 -- the first reason for which a site opens no book
 abbrev pub open_fault : SiteRecord → Option OpenFault
 open_fault site =
     if inverters site == 0 then Some NoInverter
-    else if nat_lt INVERTERS_MAX (inverters site) then Some (TooManyInverters (inverters site))
+    else if nat_lt 64 (inverters site) then Some (TooManyInverters (inverters site))
     else if nat_lt site.cap (floors site) then Some (FloorsOverCap (floors site))
     else None
 

@@ -4,10 +4,12 @@
 //! send one granted write, once.
 #![tactic(auto)]
 
+mod opening;
 mod plant;
 mod ticket;
 
-pub use plant::{BookFull, OpenFault, Outcome, Plant};
+pub use opening::OpenFault;
+pub use plant::{BookFull, Goal, Outcome, Plant};
 pub use ticket::Ticket;
 
 #[cfg(test)]

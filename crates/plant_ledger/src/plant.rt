@@ -1,34 +1,21 @@
-ghost use Rattle.std.specs.Prelude.{◌≡◌, ◌⊎◌, ◌<◌, ◌≤◌, List, [], ◌∷◌, ◌++◌, length, Some, None, IsOk, IfOk, IfErr, IfSome, MatchResult, OnOk, ◌↔◌, slice_get};
-ghost use Rattle.plant_book.specs.Book.{BookRecord};
+ghost use Rattle.std.specs.Prelude.{◌≡◌, ◌⊎◌, ◌<◌, ◌≤◌, ◌↔◌, List, [], length, Some, None, IsOk, IsErr, IfOk, IfErr, IfSome, OnOk, OnErr, slice_get};
 ghost use Rattle.plant_book.specs.Site.{inverters};
-ghost use Rattle.plant_book.specs.Calls.{moment, named, entered};
-ghost use Rattle.plant_book.specs.Answer.{reply_to};
+ghost use Rattle.plant_book.specs.Calls.{moment, named};
+ghost use Rattle.plant_book.specs.Answer.{goal_raw, is_stopped};
 ghost use Rattle.plant_book.specs.Reserved as sums;
-ghost use Rattle.plant_book.specs.Answered.{IsOpenable, IsBook, IsBuilt, IsBuiltBook};
-ghost use Rattle.plant_book.specs.History.{commissioned};
-ghost use Rattle.plant_book.specs.Safe.{IsSafeAlways};
-ghost use Rattle.plant_ledger.specs.Opening.{open_fault, floors, ticket_for};
+ghost use Rattle.plant_book.specs.Answered.{IsBook, IsInRange};
+ghost use Rattle.plant_ledger.specs.Opening.{open_fault, ticket_for};
+ghost use Rattle.plant_ledger.specs.Release.{back_of};
+ghost use Rattle.plant_ledger.specs.Plant.{entry_of, entered, right_reply, IsSafeLife, LeavesReservations};
 
-use crate::ticket::Ticket;
+use crate::opening::{OpenFault, refuse};
+use crate::ticket::{Ticket, ticket};
 use limiter_num::NoMemory;
 use plant_book::{
-    Book, Call, Entry, INVERTERS_MAX, MOMENT_MAX, Policy, Reply, Site, answer, reserved_plain,
+    Book, Call, Entry, MOMENT_MAX, Reply, Site, Write, answer, goal_plain, is_stopped, reserved_plain, total_plain,
 };
 use std::alloc::Global;
 use std::marker::Model;
-
-/// Why a site opens no book. The site is dropped.
-#[derive(Clone, Copy, Debug, PartialEq, Eq)]
-pub enum OpenFault {
-    /// The site has no inverter.
-    NoInverter,
-    /// The site has more than 64 inverters: so many.
-    TooManyInverters(u32),
-    /// The floors of all inverters sum to more than the cap: to so many mW.
-    FloorsOverCap(u64),
-    /// Memory for the whole book could not be had.
-    NoMemory,
-}
 
 /// The book already has as many calls as its room; nothing was entered.
 #[derive(Clone, Copy, Debug, PartialEq, Eq)]
@@ -40,8 +27,21 @@ pub struct BookFull {
 /// The reply to a call, and the ticket of the write that was granted, if one was.
 #[derive(Debug, Drop)]
 pub struct Outcome {
+    /// What the ledger answers.
     pub reply: Reply,
+    /// The right to send the write, where the reply grants one.
     pub ticket: Option<Ticket>,
+}
+
+/// What an inverter may aim at.
+#[derive(Clone, Copy, Debug, PartialEq, Eq)]
+pub struct Goal {
+    /// The limit as a raw percentage.
+    pub raw: u16,
+    /// What is reserved for the inverter, in mW.
+    pub reserved: u64,
+    /// Whether the plant is to stop.
+    pub stop: bool,
 }
 
 /// The ledger of one plant. It keeps the book, and computes each reply from the whole of it.
@@ -52,25 +52,27 @@ pub struct Plant {
 
 impl Model for Plant {
     ghost use Rattle.plant_book.specs.Book.{BookRecord};
-    ghost use Rattle.plant_book.specs.Answered.{IsBook, IsBuiltBook};
+    ghost use Rattle.plant_book.specs.Answered.{IsBook};
 
     ghost Value = { BookRecord };
 
     ghost view = { λ p. p.book };
 
-    ghost invariant = { λ p. record { kept : IsBook p.book; built : IsBuiltBook p.book } };
+    ghost invariant = { λ p. IsBook p.book };
 }
 
 impl Plant {
     /// Opens the book of a site at a moment in ms, with all memory that the book will need.
     pub fn open(alloc: Global, site: Site, start: u64) -> Result<Plant, OpenFault>
         requires start { start ≤ MOMENT_MAX }
-        requires policy { site.policy ≡ Policy.Open }
         ensures opened { IfOk result (λ plant. plant ≡ record { site = site; start = start; entries = [] }) }
         ensures openable { OnOk result (open_fault site ≡ None) }
         ensures kept { IfOk result (λ plant. IsBook plant) }
-        ensures safe { IfOk result (λ plant. IsSafeAlways (commissioned plant)) }
-        ensures refused { IfErr result (λ fault. (fault ≡ OpenFault.NoMemory) ⊎ (open_fault site ≡ Some fault)) }
+        ensures safe { IfOk result (λ plant. IsSafeLife plant) }
+
+        // Refused by the first cause, and for want of memory only where no cause stands.
+        ensures refused { IfErr result (λ fault. open_fault site ≡ Some fault
+            ⊎ ((fault ≡ OpenFault.NoMemory) × (open_fault site ≡ None))) }
     {
         refuse(&site)?;
         let book = match Book::new(alloc, site, start) {
@@ -80,50 +82,95 @@ impl Plant {
         Ok(Plant { book })
     }
 
-    /// Enters a call with the greater of its moment and the last moment, and answers it.
+    /// Enters a call with the greater of its moment and the last moment, and answers it. A Want wishes for at most
+    /// 10^14 mW.
     pub fn apply(&mut self, call: Call) -> Result<Outcome, BookFull>
         requires moment { moment call ≤ MOMENT_MAX }
         requires of_site { IfSome (named call) (λ inverter. inverter < inverters self.old.site) }
-        requires built { IsBuilt call }
+        requires in_range { IsInRange call }
 
-        ensures entered { IfOk result (λ outcome. self.new ≡ record self.old {
-          entries = self.old.entries
-              ++ record { call = entered self.old.start self.old.entries call; reply = outcome.reply } ∷ [];
-        }) }
-        ensures reply { IfOk result (λ outcome. outcome.reply ≡ reply_to self.old (entered self.old.start self.old.entries call)) }
+        ensures entered { IfOk result (λ outcome. self.new ≡ entered self.old call outcome.reply) }
+        ensures reply { IfOk result (λ outcome. outcome.reply ≡ right_reply self.old call) }
         ensures ticket { IfOk result (λ outcome. outcome.ticket ≡ ticket_for outcome.reply) }
+
+        // A write stays reserved until it is given back, freed or past, and is gone at that very call.
+        ensures reserved { IfOk result (λ outcome.
+            LeavesReservations self.old (entry_of self.old call outcome.reply) self.new) }
 
         // Full exactly where the book has as many calls as its room.
         ensures room { IsOk result ↔ (length self.old.entries < self.old.site.room) }
-        ensures full { IfErr result (λ full. (full.calls ≡ length self.old.entries) × (full.calls ≡ self.old.site.room) × (self.new ≡ self.old)) }
+        ensures full { IfErr result (λ full. (full.calls ≡ length self.old.entries)
+            × (full.calls ≡ self.old.site.room) × (self.new ≡ self.old)) }
 
         // The book stays one of right replies, and all limits together stay under the cap.
         ensures kept { IsBook self.new }
         ensures capped { sums.total self.new ≤ self.new.site.cap }
 
-        // Whatever the inverters did that follow the timed device, at every moment of the life.
-        ensures safe { IsSafeAlways (commissioned self.new) }
+        // Whatever past that fits the life followed, and whatever inverters did that follow the timed device.
+        ensures safe { IsSafeLife self.new }
     {
         let calls = self.calls();
         if calls >= self.site().room {
             return Err(BookFull { calls });
         }
-        let call = call.at_moment(call.at().max(self.book.latest()));
-        let reply = answer(&self.book, &call);
-        self.book.push(Entry { call, reply });
+        let reply = self.enter(call);
         Ok(Outcome {
             reply,
             ticket: ticket(&reply),
         })
     }
 
-    /// How many inverters the site has.
-    fn inverters(&self) -> u8
-        ensures { result ≡ inverters self.now.site }
+    /// Enters a call into a book that has room for it.
+    fn enter(&mut self, call: Call) -> Reply
+        requires moment { moment call ≤ MOMENT_MAX }
+        requires of_site { IfSome (named call) (λ inverter. inverter < inverters self.old.site) }
+        requires in_range { IsInRange call }
+        requires room { length self.old.entries < self.old.site.room }
+        ensures entered { self.new ≡ entered self.old call result }
+        ensures reply { result ≡ right_reply self.old call }
     {
-        let book = &self.book;
-        let site = &book.site;
-        site.units.len() as u8
+        let call = call.at_moment(call.at().max(self.book.latest()));
+        let reply = answer(&self.book, &call);
+        self.book.push(Entry { call, reply });
+        reply
+    }
+
+    /// Gives back a write that was not sent and never will be: the Back of the ticket's write. A full book hands the
+    /// ticket back.
+    pub fn release(&mut self, ticket: Ticket, at: u64) -> Result<Reply, (BookFull, Ticket)>
+        requires moment { at ≤ MOMENT_MAX }
+        requires of_site { ticket.inverter < inverters self.old.site }
+        ensures entered { IfOk result (λ reply. self.new ≡ entered self.old (back_of ticket at) reply) }
+        ensures reply { IfOk result (λ reply. reply ≡ right_reply self.old (back_of ticket at)) }
+        ensures reserved { IfOk result (λ reply.
+            LeavesReservations self.old (entry_of self.old (back_of ticket at) reply) self.new) }
+        ensures room { IsOk result ↔ (length self.old.entries < self.old.site.room) }
+        ensures full { IfErr result (λ refused. (refused.0.calls ≡ length self.old.entries)
+            × (refused.0.calls ≡ self.old.site.room) × (refused.1 ≡ ticket) × (self.new ≡ self.old)) }
+        ensures kept { IsBook self.new }
+        ensures capped { sums.total self.new ≤ self.new.site.cap }
+        ensures safe { IsSafeLife self.new }
+    {
+        let calls = self.calls();
+        if calls >= self.site().room {
+            return Err((BookFull { calls }, ticket));
+        }
+        let Write { inverter, link, number, .. } = ticket.spend();
+        Ok(self.enter(Call::Back { at, inverter, link, number }))
+    }
+
+    /// What the inverter may aim at, at the last moment.
+    pub fn goal(&self, inverter: u8) -> Goal
+        requires { inverter < inverters self.now.site }
+        ensures raw { result.raw ≡ goal_raw self.now inverter }
+        ensures reserved { result.reserved ≡ sums.reserved self.now inverter }
+        ensures stop { result.stop ≡ is_stopped self.now }
+    {
+        Goal {
+            raw: goal_plain(&self.book, inverter),
+            reserved: self.reserved(inverter),
+            stop: is_stopped(&self.book),
+        }
     }
 
     /// What is reserved for the inverter at the last moment, in mW.
@@ -138,12 +185,7 @@ impl Plant {
     pub fn total(&self) -> u64
         ensures { result ≡ sums.total self.now }
     {
-        let book = &self.book;
-        let mut total = 0;
-        for inverter in 0..self.inverters() {
-            total += reserved_plain(book, inverter);
-        }
-        total
+        total_plain(&self.book)
     }
 
     /// What of the cap isn't reserved at the last moment, in mW.
@@ -171,6 +213,7 @@ impl Plant {
         book.entries[place as usize]
     }
 
+    /// The site of the book.
     pub fn site(&self) -> &Site
         ensures { result.now ≡ self.now.site }
     {
@@ -184,47 +227,5 @@ impl Plant {
     {
         let book = &self.book;
         book.start
-    }
-}
-
-/// The milliwatts of all floors.
-fn floors(site: &Site) -> u64
-    requires { inverters site.now ≤ INVERTERS_MAX }
-    ensures { result ≡ floors site.now }
-{
-    let mut total = 0;
-    for inverter in 0..site.units.len() as u8 {
-        let unit = &site.units[usize::from(inverter)];
-        total += unit.rating.mw(unit.floor);
-    }
-    total
-}
-
-/// Refuses a site that opens no book.
-fn refuse(site: &Site) -> Result<(), OpenFault>
-    ensures fault { MatchResult result (λ _. open_fault site.now ≡ None) (λ fault. open_fault site.now ≡ Some fault) }
-    ensures openable { OnOk result (IsOpenable site.now) }
-{
-    let count = site.units.len();
-    if count == 0 {
-        return Err(OpenFault::NoInverter);
-    }
-    if count > INVERTERS_MAX {
-        return Err(OpenFault::TooManyInverters(count as u32));
-    }
-    let floors = floors(site);
-    if floors > site.cap {
-        return Err(OpenFault::FloorsOverCap(floors));
-    }
-    Ok(())
-}
-
-/// The ticket that goes with a reply.
-fn ticket(reply: &Reply) -> Option<Ticket>
-    ensures { result ≡ ticket_for reply.now }
-{
-    match *reply {
-        Reply::Granted(write) => Some(Ticket::new(write)),
-        _ => None,
     }
 }

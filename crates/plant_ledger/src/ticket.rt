@@ -1,6 +1,7 @@
 ghost use Rattle.std.specs.Prelude.{◌≡◌};
+ghost use Rattle.plant_ledger.specs.Opening.{ticket_for};
 
-use plant_book::Write;
+use plant_book::{Reply, Write};
 use std::marker::Model;
 
 /// The right to send one granted write, once. Only a grant makes one, and there is no copy of it.
@@ -18,12 +19,6 @@ impl Model for Ticket {
 }
 
 impl Ticket {
-    pub(crate) fn new(write: Write) -> Ticket
-        ensures { result ≡ write }
-    {
-        Ticket { write }
-    }
-
     /// The write that it is for.
     pub fn write(&self) -> Write
         ensures { result ≡ self.now }
@@ -36,5 +31,15 @@ impl Ticket {
         ensures { result ≡ self }
     {
         self.write
+    }
+}
+
+/// The ticket that goes with a reply.
+pub(crate) fn ticket(reply: &Reply) -> Option<Ticket>
+    ensures { result ≡ ticket_for reply.now }
+{
+    match *reply {
+        Reply::Granted(write) => Some(Ticket { write }),
+        _ => None,
     }
 }
