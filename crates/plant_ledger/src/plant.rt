@@ -9,7 +9,7 @@ ghost use Rattle.plant_ledger.specs.Release.{back_of};
 ghost use Rattle.plant_ledger.specs.Plant.{entry_of, entered, right_reply, IsSafeLife, LeavesReservations};
 
 use crate::opening::{OpenFault, refuse};
-use crate::ticket::{Ticket, ticket};
+use crate::ticket::{Ticket, ticket_with};
 use limiter_num::NoMemory;
 use plant_book::{
     Book, Call, Entry, MOMENT_MAX, Reply, Site, Write, answer, goal_plain, is_stopped, reserved_plain, total_plain,
@@ -116,7 +116,7 @@ impl Plant {
         let reply = self.enter(call);
         Ok(Outcome {
             reply,
-            ticket: ticket(&reply),
+            ticket: ticket_with(&reply),
         })
     }
 
@@ -128,6 +128,8 @@ impl Plant {
         requires room { length self.old.entries < self.old.site.room }
         ensures entered { self.new ≡ entered self.old call result }
         ensures reply { result ≡ right_reply self.old call }
+        ensures reserved { LeavesReservations self.old (entry_of self.old call result) self.new }
+        ensures kept { IsBook self.new }
     {
         let call = call.at_moment(call.at().max(self.book.latest()));
         let reply = answer(&self.book, &call);
@@ -199,6 +201,7 @@ impl Plant {
     pub fn calls(&self) -> u32
         ensures calls { result ≡ length self.now.entries }
         ensures within { result ≤ self.now.site.room }
+        ensures kept { IsBook self.now }
     {
         let book = &self.book;
         book.entries.len() as u32

@@ -35,7 +35,7 @@ impl Ticket {
 }
 
 /// The ticket that goes with a reply.
-pub(crate) fn ticket(reply: &Reply) -> Option<Ticket>
+pub(crate) fn ticket_with(reply: &Reply) -> Option<Ticket>
     ensures { result ≡ ticket_for reply.now }
 {
     match *reply {

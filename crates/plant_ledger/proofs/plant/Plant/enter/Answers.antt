@@ -3,6 +3,7 @@ use Rattle.std.proofs.Common.{◌≡◌, ℕ, ◌<◌, ◌≤◌, max, length, s
 use Rattle.std.specs.Prelude.{IfSome}
 use Rattle.plant_book.specs.declared.call.Call.{Call}
 use Rattle.plant_book.specs.declared.call.TheConstants.{MOMENT_MAX}
+use Rattle.plant_book.specs.declared.call.Reply.{Reply}
 use Rattle.plant_book.specs.declared.book.Entry.{Entry}
 use Rattle.plant_book.specs.Site.{inverters}
 use Rattle.plant_book.specs.Book.{BookRecord}
@@ -10,6 +11,8 @@ use Rattle.plant_book.specs.Calls.{moment, at_moment, named, entered}
 use Rattle.plant_book.specs.Reserved.{now_of}
 use Rattle.plant_book.specs.Answer.{reply_to}
 use Rattle.plant_book.specs.Answered.{IsNext, IsBook, IsInRange}
+use Rattle.plant_book.proofs.Lifetime.{lives_on, changes_nothing}
+use Rattle.plant_ledger.specs.Plant.{LeavesReservations}
 use Rattle.plant_book.proofs.Growth.{IsNext-entered, IsBook-push, with_entry}
 use Rattle.plant_ledger.proofs.plant.Plant.enter.Goals as goal
 
@@ -53,3 +56,26 @@ returns-clause-reply c =
     let book = c.self.inside.book in
     let is = entered-is book c.args.call c.at_moment-call.result c.max.result c.at.result c.latest.result c.at.ensures c.latest.ensures c.max.ensures c.at_moment-call.ensures in
     c.answer-reply.ensures ∙ ap (reply_to book) is ∙ ap (λ (b : BookRecord). reply_to b (entered b.start b.entries c.args.call)) c.self.view_is
+
+pub returns-clause-kept : goal.returns-clause-kept
+returns-clause-kept c = invariant_of-self c
+
+leaves : (book : BookRecord) (call moved : Call) (reply : Reply) → moved ≡ entered book.start book.entries call → IsNext book.site book.start book.entries moved → reply ≡ reply_to book moved
+    → LeavesReservations book (record { call = moved; reply = reply }) (with_entry book (record { call = moved; reply = reply }))
+unfolding now_of
+leaves book call moved reply is may right =
+    let entry : Entry = record { call = moved; reply = reply } in
+    record { lifetime = lives_on book entry right may.later; refused = changes_nothing book entry right may.later }
+
+pub returns-clause-reserved : goal.returns-clause-reserved
+returns-clause-reserved c =
+    let book = c.self.inside.book in
+    let call = c.at_moment-call.result in
+    let reply = c.answer-reply.result in
+    let is = entered-is book c.args.call call c.max.result c.at.result c.latest.result c.at.ensures c.latest.ensures c.max.ensures c.at_moment-call.ensures in
+    let may = next book c.args.call call is c.self.invariant c.requires.moment
+    (subst (λ (b : BookRecord). IfSome (named c.args.call) (λ inverter. inverter < inverters b.site)) (sym c.self.view_is) c.requires.of_site) c.requires.in_range in
+    let left = leaves book c.args.call call reply is may c.answer-reply.ensures in
+    let of_new = subst (λ (b : BookRecord). LeavesReservations book (record { call = call; reply = reply }) b) (sym c.push.ensures) left in
+    let of_call = subst (λ (m : Call). LeavesReservations book (record { call = m; reply = reply }) c.push.new.self) is of_new in
+    subst (λ (b : BookRecord). LeavesReservations b (record { call = entered b.start b.entries c.args.call; reply = reply }) c.push.new.self) c.self.view_is of_call

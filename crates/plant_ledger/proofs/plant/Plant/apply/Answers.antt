@@ -1,0 +1,14 @@
+use Rattle.plant_ledger.proofs.Kept.{kept_capped, kept_safe}
+use Rattle.plant_ledger.proofs.plant.Plant.apply.Goals as goal
+
+pub returns-then-calls-site-clause-capped : goal.returns-then-calls-site-clause-capped
+returns-then-calls-site-clause-capped c = kept_capped _ c.calls-calls.ensures.kept
+
+pub returns-then-calls-site-clause-safe : goal.returns-then-calls-site-clause-safe
+returns-then-calls-site-clause-safe c = kept_safe _ c.calls-calls.ensures.kept
+
+pub returns-clause-capped : goal.returns-clause-capped
+returns-clause-capped c = kept_capped _ c.enter-reply.ensures.kept
+
+pub returns-clause-safe : goal.returns-clause-safe
+returns-clause-safe c = kept_safe _ c.enter-reply.ensures.kept
