@@ -24,7 +24,7 @@ use Rattle.plant_book.proofs.Granting.{granted_is_covered}
 use Rattle.plant_book.proofs.Cap.{live-push, grant_cases}
 
 -- two filters are one
-filter-both : {X : Type 0} (p q r : X → Bool) → ((x : X) → (q x && p x) ≡ r x) → (xs : List X) → filter p (filter q xs) ≡ filter r xs
+pub filter-both : {X : Type 0} (p q r : X → Bool) → ((x : X) → (q x && p x) ≡ r x) → (xs : List X) → filter p (filter q xs) ≡ filter r xs
 filter-both p q r same [] = refl
 filter-both p q r same (x ∷ xs) =
     elim (cases_Bool (q x)) [

@@ -35,16 +35,16 @@ safe_history history is among events first rest at devices from cuts =
     omega (arith, total, both)
 
 -- the facts of a history hold of its first lives, the last of them cut short
-first_books : (P : BookRecord → Type 0) (before : List BookRecord) (book cut : BookRecord) (later : List BookRecord) → AllByRecursion P (before ++ book ∷ later) → (P book → P cut) → AllByRecursion P (before ++ cut ∷ [])
+pub first_books : (P : BookRecord → Type 0) (before : List BookRecord) (book cut : BookRecord) (later : List BookRecord) → AllByRecursion P (before ++ book ∷ later) → (P book → P cut) → AllByRecursion P (before ++ cut ∷ [])
 first_books P [] book cut later all keeps = (keeps all.0, tt)
 first_books P (one ∷ before) book cut later all keeps = (all.0, first_books P before book cut later all.1 keeps)
 
-first_in_turn : (before : List BookRecord) (book cut : BookRecord) (later : List BookRecord) → InTurn (before ++ book ∷ later) → cut.start ≡ book.start → InTurn (before ++ cut ∷ [])
+pub first_in_turn : (before : List BookRecord) (book cut : BookRecord) (later : List BookRecord) → InTurn (before ++ book ∷ later) → cut.start ≡ book.start → InTurn (before ++ cut ∷ [])
 first_in_turn [] book cut later turn same = tt
 first_in_turn (one ∷ []) book cut later turn same = (omega (arith, turn.0, same), tt)
 first_in_turn (one ∷ two ∷ before) book cut later turn same = (turn.0, first_in_turn (two ∷ before) book cut later turn.1 same)
 
-first_start_is : (before : List BookRecord) (book cut : BookRecord) (later : List BookRecord) (n m : ℕ) → cut.start ≡ book.start → first_start (before ++ cut ∷ []) n ≡ first_start (before ++ book ∷ later) m
+pub first_start_is : (before : List BookRecord) (book cut : BookRecord) (later : List BookRecord) (n m : ℕ) → cut.start ≡ book.start → first_start (before ++ cut ∷ []) n ≡ first_start (before ++ book ∷ later) m
 first_start_is [] book cut later n m same = same
 first_start_is (one ∷ before) book cut later n m same = refl
 

@@ -96,7 +96,9 @@ pub enum Call {
 }
 
 impl Call {
+    ghost use Rattle.std.specs.Prelude.{◌↔◌, IsTrue};
     ghost use Rattle.plant_book.specs.Calls.{moment, named, at_moment};
+    ghost use Rattle.plant_book.specs.Answered.{IsInRange};
 
     /// The moment of the call, in ms.
     pub fn at(&self) -> u64
@@ -126,6 +128,27 @@ impl Call {
             | Call::Back { inverter, .. }
             | Call::Want { inverter, .. } => Some(inverter),
             Call::Tick { .. } | Call::Stop { .. } => None,
+        }
+    }
+
+    /// Whether the numbers of the call are in their ranges: only a wish may be above the greatest.
+    pub fn is_in_range(&self) -> bool
+        ensures { IsTrue result ↔ IsInRange self.now }
+    {
+        match *self {
+            Call::Want { mw, .. } => mw <= WISH_MAX,
+            Call::Ask { raw: _raw, .. } => true,
+            Call::Saw {
+                number: _number,
+                raw: _raw,
+                ..
+            } => true,
+            Call::Back {
+                link: _link,
+                number: _number,
+                ..
+            } => true,
+            Call::Link { .. } | Call::Read { .. } | Call::Tick { .. } | Call::Stop { .. } => true,
         }
     }
 

@@ -53,7 +53,7 @@ impl Unit {
 }
 
 /// A plant behind one grid connection. It is always as `new` makes it.
-#[derive(Debug, Drop)]
+#[derive(Clone, Debug, Drop)]
 pub struct Site {
     /// What all limits together stay under, in mW.
     pub cap: u64,

@@ -197,6 +197,14 @@ impl Plant {
         self.site().cap.saturating_sub(self.total())
     }
 
+    /// The last moment: that of the last call, or the start where there is none, in ms.
+    pub fn latest(&self) -> u64
+        ensures moment { result ≡ sums.now_of self.now }
+        ensures kept { IsBook self.now }
+    {
+        self.book.latest()
+    }
+
     /// How many calls were entered.
     pub fn calls(&self) -> u32
         ensures calls { result ≡ length self.now.entries }
