@@ -13,7 +13,7 @@ timed_alike : (a b : Timed) → Some a ≡ Some b → a ≡ b
 timed_alike a b is = cc
 
 -- a Revert is no Act
-no_act : (grant : Grant) → Revert ≡ Act grant → ⊥
+pub no_act : (grant : Grant) → Revert ≡ Act grant → ⊥
 no_act grant is = cc
 
 pub revert_is_no_act : (reverted acted : Timed) (grant : Grant) → reverted.event ≡ Revert → acted.event ≡ Act grant → Some reverted ≡ Some acted → ⊥

@@ -44,7 +44,7 @@ module _ (book : BookRecord) where
     pub loud : book.start + reach book.site.rules < write.at
     pub until : write.at ≤ latest book.start entries
 
-  granted_by : (reply : Reply) (write : writes.Write) → Contains (granted reply) write → reply ≡ replies.Granted write
+  pub granted_by : (reply : Reply) (write : writes.Write) → Contains (granted reply) write → reply ≡ replies.Granted write
   granted_by (replies.Granted made) write within = ap (λ (w : writes.Write). replies.Granted w) (only_element made write within)
   granted_by _ write within = absurd (omega (arith, within.1))
 

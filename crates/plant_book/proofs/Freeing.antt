@@ -58,7 +58,7 @@ freed_by rules life place before (calls.Saw at inverter number raw) reply write 
     rw (freed_is_seen reply both.0) (freed_by_pending rules life place (pending_read inverter before) raw at write both.1)
 freed_by rules life place before _ reply write is kept = absurd (never is)
 
-or_false_parts : (a b : Bool) → (a || b) ≡ false → (a ≡ false) × (b ≡ false)
+pub or_false_parts : (a b : Bool) → (a || b) ≡ false → (a ≡ false) × (b ≡ false)
 or_false_parts true b is = absurd (never (sym is))
 or_false_parts false b is = (refl, is)
 

@@ -26,7 +26,7 @@ pub record IsCovered (book : BookRecord) (now : ℕ) (write : writes.Write) : Ty
   pub room : length (live book.site.rules book.entries now write.inverter) < 32
 
 -- where the first answer isn't this one, the test failed and the rest is
-rest_of : (b : Bool) (x y z : Reply) → (x ≡ z → ⊥) → cond b x y ≡ z → (b ≡ false) × (y ≡ z)
+pub rest_of : (b : Bool) (x y z : Reply) → (x ≡ z → ⊥) → cond b x y ≡ z → (b ≡ false) × (y ≡ z)
 rest_of true x y z other is = absurd (other is)
 rest_of false x y z other is = (refl, is)
 

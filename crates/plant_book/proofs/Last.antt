@@ -53,7 +53,7 @@ unfolding last_that
 last_that-stands p [] x is = absurd cc
 last_that-stands p (y ∷ ys) x is = some_step p y ys x (last_that p ys) refl (λ z. last_that-stands p ys z) (sym (last_that-cons p y ys) ∙ is)
 
-some_is : {X : Type 0} (x y : X) → some x ≡ some y → x ≡ y
+pub some_is : {X : Type 0} (x y : X) → some x ≡ some y → x ≡ y
 some_is x y is = cc
 
 -- what holds of each element holds of the first that passes

@@ -8,6 +8,8 @@ pub mod Freeing
 pub mod Places
 pub mod Growing
 pub mod Behaviours
+pub mod Numbers
+pub mod Tight
 pub mod Looks
 pub mod Cover
 pub mod Claims

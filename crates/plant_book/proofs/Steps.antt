@@ -33,7 +33,7 @@ after_last-push_fails p xs x fails =
     let place : length (xs ++ x ∷ []) - suffix_len (λ y. not (p y)) (xs ++ x ∷ []) ≡ length xs - tail = omega (arith, more, len, suffix_len-le-length (λ y. not (p y)) xs) in
     ap (λ (n : ℕ). drop n (xs ++ x ∷ [])) place ∙ drop-append-le (length xs - tail) xs (x ∷ []) (omega arith)
 
-count_by-push : {X : Type 0} (p : X → Bool) (xs : List X) (x : X) → count_by p (xs ++ x ∷ []) ≡ count_by p xs + cond (p x) 1 0
+pub count_by-push : {X : Type 0} (p : X → Bool) (xs : List X) (x : X) → count_by p (xs ++ x ∷ []) ≡ count_by p xs + cond (p x) 1 0
 count_by-push p xs x = omega (arith, sum_by-append (λ y. cond (p y) 1 0) xs (x ∷ []))
 
 module _ (inverter : ℕ) (entries : List Entry) (entry : Entry) where

@@ -14,3 +14,4 @@ pub mod Behaviour
 pub mod Held
 pub mod Safe
 pub mod Lifetime
+pub mod Tight
