@@ -188,3 +188,342 @@ module _ (book : BookRecord) (kept : IsBook book) where
 
         granted_number : (a b : writes.Write) → replies.Granted a ≡ replies.Granted b → a.number ≡ b.number
         granted_number a b is = ap (λ (w : writes.Write). w.number) (granted_alike a b is)
+
+abbrev is_look : Event → Bool
+is_look (Act grant) = false
+is_look Revert = false
+is_look (Look sight) = true
+
+abbrev is_a_look : Timed → Bool
+is_a_look timed = is_look timed.event
+
+look_is : (event : Event) → is_look event ≡ true → (sight : Sight) × (event ≡ Look sight)
+look_is (Act grant) is = absurd cc
+look_is Revert is = absurd cc
+look_is (Look sight) is = (sight, refl)
+
+not_looked : (sight : Sight) (event : Event) → is_look event ≡ false → is_look_of sight event ≡ false
+not_looked sight (Act grant) is = refl
+not_looked sight Revert is = refl
+not_looked sight (Look other) is = absurd cc
+
+-- none passes where none is found
+all_fail : {X : Type 0} (p : X → Bool) (xs : List X) → find p xs ≡ None → AllByRecursion (λ x. p x ≡ false) xs
+all_fail p [] is = tt
+all_fail p (x ∷ xs) is =
+    elim (cases_Bool (p x)) [
+      | inl passes ↦ absurd (let never = rw passes at is in cc)
+      | inr fails ↦ let rest = rw fails at is in (fails, all_fail p xs rest)
+    ]
+
+-- where an element that is found stands
+record FoundAt {X : Type 0} (p : X → Bool) (xs : List X) (x : X) : Type 0 where
+  front : List X
+  behind : List X
+  stand : xs ≡ front ++ x ∷ behind
+
+found_at : {X : Type 0} (p : X → Bool) (xs : List X) (x : X) → find p xs ≡ Some x → FoundAt p xs x
+found_at p [] x is = absurd cc
+found_at {X = X} p (y ∷ xs) x is =
+    elim (cases_Bool (p y)) [
+      | inl passes ↦ let one = rw passes at is in record { front = []; behind = xs; stand = ap (λ (z : X). z ∷ xs) (some_is y x one) }
+      | inr fails ↦
+          let more = rw fails at is in
+          let rest = found_at p xs x more in
+          record { front = y ∷ rest.front; behind = rest.behind; stand = ap (λ (zs : List X). y ∷ zs) rest.stand }
+    ]
+
+-- what holds at each place holds of each
+all_places : {X : Type 0} (P : X → Type 0) (xs : List X) → ((before : List X) (x : X) (after : List X) → xs ≡ before ++ x ∷ after → P x) → AllByRecursion P xs
+all_places P [] each = tt
+all_places {X = X} P (x ∷ xs) each = (each [] x xs refl, all_places P xs (λ before y after is. each (x ∷ before) y after (ap (λ (zs : List X). x ∷ zs) is)))
+
+module _ (book : BookRecord) (kept : IsBook book) (write : writes.Write) (at : StandsAt book.site.rules book.entries write) (unread : IsUnreadSince book.entries write)
+    (events : List Timed) (device : IsBehaviour (life_after [] book) write.inverter events) where
+  abbrev its_history : History
+  its_history = life_after [] book
+
+  abbrev the_grant : Grant
+  the_grant = record { life = 1; place = 0 + length at.front; write = write }
+
+  abbrev longest : ℕ
+  longest = tmax book.site.rules
+
+  -- what may come before the Act on its link
+  abbrev IsLower : Timed → Type 0
+  IsLower timed = (number : ℕ) → IsAsked timed.event (link_of_grant the_grant) number → number ≤ write.number
+
+  -- the events up to and with the last look
+  record Seen : Type 0 where
+    first : List Timed
+    rest : List Timed
+    stand : events ≡ first ++ rest
+    no_look : find is_a_look rest ≡ None
+    until : AllByRecursion (λ timed. timed.at ≤ write.at) first
+    numbers : AllByRecursion IsLower first
+    ready : (before after : List Timed) (acted : ℕ) (other : Grant) → first ≡ before ++ record { at = acted; event = Act other } ∷ after → find is_change after ≡ None → AllByRecursion (λ timed. timed.at ≤ acted + longest) first
+
+  module _ (front : List Timed) (look : Timed) (behind : List Timed) (sight : Sight) (looks : look.event ≡ Look sight) (stand : events ≡ front ++ look ∷ behind) where
+    look_at : events ≡ front ++ record { at = look.at; event = Look sight } ∷ behind
+    look_at = stand ∙ ap (λ (e : Event). front ++ record { at = look.at; event = e } ∷ behind) looks
+
+    its_sooner : IsSooner book kept write at unread sight
+    its_sooner = let facts = device.looks front behind look.at sight look_at in sooner_of book kept write at unread sight facts.0 facts.1
+
+    look_until : look.at ≤ write.at
+    look_until = omega (arith, (device.looks front behind look.at sight look_at).3, its_sooner.until)
+
+    -- each event before the look, with the look behind it
+    stands_before : (before : List Timed) (timed : Timed) (after : List Timed) → front ≡ before ++ timed ∷ after → events ≡ before ++ timed ∷ (after ++ look ∷ behind)
+    stands_before before timed after is = stand ∙ ap (λ (ts : List Timed). ts ++ look ∷ behind) is ∙ append_assoc before (timed ∷ after) (look ∷ behind)
+
+    before_look : (before : List Timed) (timed : Timed) (after : List Timed) → front ≡ before ++ timed ∷ after → Precedes events timed look
+    before_look before timed after is = record { before = before; between = after; after = behind; stand = stands_before before timed after is }
+
+    act_early : (grant : Grant) (timed : Timed) → Precedes events timed look → timed.event ≡ Act grant → grant.life ≡ 1 → grant.place ≤ length at.front
+    act_early grant timed order acts in_life =
+        let not_after = device.looks_first sight grant timed look order acts looks in
+        elim (cases_lt (length at.front) grant.place) [
+          | inl behind_it ↦ absurd (late sight.life grant.life sight.place grant.place its_sooner.in_life in_life (omega (arith, its_sooner.place, behind_it)) not_after)
+          | inr early ↦ early
+        ]
+      where
+        lt_ltb : (c d : ℕ) → c < d → ltb c d ≡ true
+        lt_ltb c d lt = elim (cases_Bool (ltb c d)) [ inl is ↦ is | inr fails ↦ absurd (omega (arith, lt, ltb-false c d fails)) ]
+
+        or_true : (b : Bool) → (b || true) ≡ false → ⊥
+        or_true true is = cc
+        or_true false is = cc
+
+        late : (a b c d : ℕ) → a ≡ 1 → b ≡ 1 → c < d → (ltb a b || ((eqb a b) && ltb c d)) ≡ false → ⊥
+        late a b c d one other lt is =
+            let less : ltb c d ≡ true = lt_ltb c d lt in
+            let same : eqb a b ≡ true = eq-eqb a b (one ∙ sym other) in
+            let never = rw (less, same) at is in or_true (ltb a b) never
+
+    lower_event : (before : List Timed) (timed : Timed) (after : List Timed) → front ≡ before ++ timed ∷ after → (event : Event) → timed.event ≡ event → (number : ℕ) → IsAsked event (link_of_grant the_grant) number → number ≤ write.number
+    lower_event before timed after is (Act grant) acts number asked =
+        let order = before_look before timed after is in
+        let place : events ≡ before ++ record { at = timed.at; event = Act grant } ∷ (after ++ look ∷ behind) = stands_before before timed after is ∙ ap (λ (e : Event). before ++ record { at = timed.at; event = e } ∷ (after ++ look ∷ behind)) acts in
+        let may = device.acts before (after ++ look ∷ behind) timed.at grant place in
+        let early = act_early grant timed order acts (life_of grant may.0) in
+        omega (arith, number_of_act book kept write at unread grant may.0 may.1 early asked.0, asked.1)
+      where
+        life_of : (grant : Grant) → Contains (grants (life_after [] book)) grant → grant.life ≡ 1
+        life_of grant within =
+            elim (Contains-append_cases (life_grants 1 0 book.entries) [] grant within) [
+              | inl here ↦ (grant_at 1 0 book.entries grant here).in_life
+              | inr none ↦ absurd (omega (arith, none.1))
+            ]
+    lower_event before timed after is Revert reverts number asked = absurd asked
+    lower_event before timed after is (Look other) shows number asked =
+        let order = before_look before timed after is in
+        let place : events ≡ before ++ record { at = timed.at; event = Look other } ∷ (after ++ look ∷ behind) = stands_before before timed after is ∙ ap (λ (e : Event). before ++ record { at = timed.at; event = e } ∷ (after ++ look ∷ behind)) shows in
+        let facts = device.looks before (after ++ look ∷ behind) timed.at other place in
+        let other_sooner = sooner_of book kept write at unread other facts.0 facts.1 in
+        omega (arith, other_sooner.number (ap (λ (p : ℕ × ℕ). p.1) asked.0), asked.1)
+
+    look_ready : (before after : List Timed) (acted : ℕ) (other : Grant) → front ++ look ∷ [] ≡ before ++ record { at = acted; event = Act other } ∷ after → find is_change after ≡ None → look.at ≤ acted + longest
+    look_ready before after acted other is none =
+        let all : events ≡ before ++ record { at = acted; event = Act other } ∷ (after ++ behind) =
+            stand ∙ sym (append_assoc front (look ∷ []) behind) ∙ ap (λ (ts : List Timed). ts ++ behind) is ∙ append_assoc before (record { at = acted; event = Act other } ∷ after) behind in
+        let next : find is_change (after ++ behind) ≡ find is_change behind = find-append is_change after behind ∙ ap (λ (o : Option Timed). option_or o (find is_change behind)) none in
+        let ends = subst (λ (o : Option Timed). IsSomeAnd o (λ t. t.at ≤ acted + longest)) next (device.ends before (after ++ behind) acted other all) in
+        by_next (find is_change behind) refl ends
+      where
+        by_next : (next : Option Timed) → find is_change behind ≡ next → IsSomeAnd next (λ t. t.at ≤ acted + longest) → look.at ≤ acted + longest
+        by_next None found ends = absurd ends
+        by_next (Some one) found ends =
+            let place = found_at is_change behind one found in
+            let order : Precedes events look one = record { before = front; between = place.front; after = place.behind; stand = stand ∙ ap (λ (ts : List Timed). front ++ look ∷ ts) place.stand } in
+            omega (arith, ends, device.in_order look one order)
+
+    before_look_at : AllByRecursion (λ timed. timed.at ≤ look.at) (front ++ look ∷ [])
+    before_look_at = all_push (λ timed. timed.at ≤ look.at) front look (all_places (λ timed. timed.at ≤ look.at) front (λ before timed after is. device.in_order timed look (before_look before timed after is))) (omega arith)
+
+    seen_to_look : find is_a_look behind ≡ None → Seen
+    seen_to_look none = record {
+      first = front ++ look ∷ [];
+      rest = behind;
+      stand = stand ∙ sym (append_assoc front (look ∷ []) behind);
+      no_look = none;
+      until = all_map (λ timed. timed.at ≤ look.at) (λ timed. timed.at ≤ write.at) (λ timed le. omega (arith, le, look_until)) (front ++ look ∷ []) before_look_at;
+      numbers = all_push IsLower front look (all_places IsLower front (λ before timed after is. lower_event before timed after is timed.event refl))
+          (λ number asked. let at_look = subst (λ (e : Event). IsAsked e (link_of_grant the_grant) number) looks asked in omega (arith, its_sooner.number (ap (λ (p : ℕ × ℕ). p.1) at_look.0), at_look.1));
+      ready = λ before after acted other is none. all_map (λ timed. timed.at ≤ look.at) (λ timed. timed.at ≤ acted + longest) (λ timed le. omega (arith, le, look_ready before after acted other is none)) (front ++ look ∷ []) before_look_at;
+    }
+
+  seen_by_last : (last : Option Timed) → last_that is_a_look events ≡ last → Seen
+  seen_by_last None none = record {
+    first = [];
+    rest = events;
+    stand = refl;
+    no_look = none_from_last is_a_look events none;
+    until = tt;
+    numbers = tt;
+    ready = λ before after acted other is gone. tt;
+  }
+  seen_by_last (Some look) found =
+      let stands = last_that-stands is_a_look events look found in
+      let its = look_is look.event (last_that_passes is_a_look events look found) in
+      seen_to_look stands.before look stands.after its.0 its.1 stands.stand stands.none_after
+
+  seen : Seen
+  seen = seen_by_last (last_that is_a_look events) refl
+
+  seen_start : IsStart its_history write.inverter seen.first
+  seen_start = start_of its_history write.inverter seen.first seen.rest (subst (IsBehaviour its_history write.inverter) seen.stand device)
+
+  seen_once : (sight : Sight) → Contains (sights its_history) sight → sight.read.inverter ≡ write.inverter → count_by (λ timed. is_look_of sight timed.event) seen.first ≡ 1
+  seen_once sight within its =
+      let is_its : Timed → Bool = λ timed. is_look_of sight timed.event in
+      let all : count_by is_its (seen.first ++ seen.rest) ≡ 1 = subst (λ (ts : List Timed). count_by is_its ts ≡ 1) seen.stand (device.looked sight within its) in
+      let none : count_by is_its seen.rest ≡ 0 = count_by-none is_its (λ timed. is_a_look timed ≡ false) (λ timed is. not_looked sight timed.event is) seen.rest (all_fail is_a_look seen.rest seen.no_look) in
+      omega (arith, all, none, count_by-append is_its seen.first seen.rest)
+
+  abbrev last_act_at : ℕ
+  last_act_at = last_act book.site.rules write.at
+
+  -- events behind which the write may act at its last moment
+  record Ready : Type 0 where
+    list : List Timed
+    start : IsStart its_history write.inverter list
+    until : AllByRecursion (λ timed. timed.at ≤ last_act_at) list
+    numbers : AllByRecursion IsLower list
+    ends : (before after : List Timed) (acted : ℕ) (other : Grant) → list ≡ before ++ record { at = acted; event = Act other } ∷ after → find is_change after ≡ None → last_act_at ≤ acted + longest
+    once : (sight : Sight) → Contains (sights its_history) sight → sight.read.inverter ≡ write.inverter → count_by (λ timed. is_look_of sight timed.event) list ≡ 1
+
+  seen_until : AllByRecursion (λ timed. timed.at ≤ last_act_at) seen.first
+  seen_until = all_map (λ timed. timed.at ≤ write.at) (λ timed. timed.at ≤ last_act_at) (λ timed le. omega (arith, le)) seen.first seen.until
+
+  -- as they are
+  ready_as_seen : ((before after : List Timed) (acted : ℕ) (other : Grant) → seen.first ≡ before ++ record { at = acted; event = Act other } ∷ after → find is_change after ≡ None → last_act_at ≤ acted + longest) → Ready
+  ready_as_seen ends = record { list = seen.first; start = seen_start; until = seen_until; numbers = seen.numbers; ends = ends; once = seen_once }
+
+  -- with the Revert of the last Act
+  module _ (acted : ℕ) (grant : Grant) (last : last_that is_change seen.first ≡ Some (record { at = acted; event = Act grant })) (early : acted + longest < last_act_at) where
+    abbrev reverted : Timed
+    reverted = record { at = acted + longest; event = Revert }
+
+    revert_until : AllByRecursion (λ timed. timed.at ≤ acted + longest) seen.first
+    revert_until =
+        let stands = last_that-stands is_change seen.first (record { at = acted; event = Act grant }) last in
+        seen.ready stands.before stands.after acted grant stands.stand stands.none_after
+
+    revert_ends : (before after : List Timed) (moment : ℕ) (other : Grant) → seen.first ++ reverted ∷ [] ≡ before ++ record { at = moment; event = Act other } ∷ after → find is_change after ≡ None → last_act_at ≤ moment + longest
+    revert_ends before after moment other is none =
+        elim (push_places seen.first reverted before (record { at = moment; event = Act other }) after is) as (λ _. last_act_at ≤ moment + longest) [
+          | AtLast a b c ↦ absurd (no_act other (sym (ap (λ (t : Timed). t.event) b)))
+          | Sooner p ↦ absurd (let two = find_none-append is_change p.rest (reverted ∷ []) (sym (ap (find is_change) p.to_after) ∙ none) in some_reverted two.1)
+        ]
+      where
+        some_reverted : find is_change (reverted ∷ []) ≡ None → ⊥
+        some_reverted is = cc
+
+    ready_reverted : Ready
+    ready_reverted = record {
+      list = seen.first ++ reverted ∷ [];
+      start = start_push its_history write.inverter seen.first reverted seen_start
+          (revert_may its_history write.inverter seen.first (acted + longest) revert_until acted grant last (omega (arith, tmin_le-tmax book.site.rules)) (omega arith));
+      until = all_push (λ timed. timed.at ≤ last_act_at) seen.first reverted seen_until (omega (arith, early));
+      numbers = all_push IsLower seen.first reverted seen.numbers (λ number asked. absurd asked);
+      ends = revert_ends;
+      once = λ sight within its. omega (arith, seen_once sight within its, count_by-append (λ (timed : Timed). is_look_of sight timed.event) seen.first (reverted ∷ []));
+    }
+
+  ready_by_event : (last : Timed) (event : Event) → last.event ≡ event → last_that is_change seen.first ≡ Some last → Ready
+  ready_by_event last (Act grant) acts found =
+      let at_last : last_that is_change seen.first ≡ Some (record { at = last.at; event = Act grant }) = found ∙ ap (λ (e : Event). Some (record { at = last.at; event = e })) acts in
+      elim (cases_lt (last.at + longest) last_act_at) [
+        | inl early ↦ ready_reverted last.at grant at_last early
+        | inr late ↦ ready_as_seen (λ before after acted other is none.
+            let same = some_is (record { at = acted; event = Act other }) last (sym (ap (last_that is_change) is ∙ last_that-is is_change before (record { at = acted; event = Act other }) after refl none) ∙ found) in
+            omega (arith, late, ap (λ (t : Timed). t.at) same))
+      ]
+  ready_by_event last Revert reverts found =
+      ready_as_seen (λ before after acted other is none.
+      absurd (let same = some_is (record { at = acted; event = Act other }) last (sym (ap (last_that is_change) is ∙ last_that-is is_change before (record { at = acted; event = Act other }) after refl none) ∙ found) in
+      no_act other (sym (ap (λ (t : Timed). t.event) same ∙ reverts))))
+  ready_by_event last (Look sight) looks found =
+      ready_as_seen (λ before after acted other is none.
+      absurd (let same = some_is (record { at = acted; event = Act other }) last (sym (ap (last_that is_change) is ∙ last_that-is is_change before (record { at = acted; event = Act other }) after refl none) ∙ found) in
+      act_no_look other sight (ap (λ (t : Timed). t.event) same ∙ looks)))
+    where
+      act_no_look : (grant : Grant) (seen : Sight) → Act grant ≡ Look seen → ⊥
+      act_no_look grant seen is = cc
+
+  ready_by_last : (last : Option Timed) → last_that is_change seen.first ≡ last → Ready
+  ready_by_last None none =
+      ready_as_seen (λ before after acted other is gone.
+      absurd (never (record { at = acted; event = Act other }) (sym (ap (last_that is_change) is ∙ last_that-is is_change before (record { at = acted; event = Act other }) after refl gone) ∙ none)))
+    where
+      never : (timed : Timed) → Some timed ≡ None → ⊥
+      never timed is = cc
+  ready_by_last (Some last) found = ready_by_event last last.event refl found
+
+  ready : Ready
+  ready = ready_by_last (last_that is_change seen.first) refl
+
+  abbrev acts : Timed
+  acts = record { at = last_act_at; event = Act the_grant }
+
+  abbrev reverts : Timed
+  reverts = record { at = last_act_at + longest; event = Revert }
+
+  acted_start : IsStart its_history write.inverter (ready.list ++ acts ∷ [])
+  acted_start =
+      start_push its_history write.inverter ready.list acts ready.start
+      (act_may its_history write.inverter ready.list last_act_at ready.until the_grant (it_may_act book kept write at unread) refl (omega arith) (omega arith) ready.numbers ready.ends)
+
+  acted_holds : last_that is_change (ready.list ++ acts ∷ []) ≡ Some acts
+  acted_holds = last_that-is is_change ready.list acts [] refl refl
+
+  acted_until : AllByRecursion (λ timed. timed.at ≤ last_act_at) (ready.list ++ acts ∷ [])
+  acted_until = all_push (λ timed. timed.at ≤ last_act_at) ready.list acts ready.until (omega arith)
+
+  held_start : IsStart its_history write.inverter ((ready.list ++ acts ∷ []) ++ reverts ∷ [])
+  held_start =
+      start_push its_history write.inverter (ready.list ++ acts ∷ []) reverts acted_start
+      (revert_may its_history write.inverter (ready.list ++ acts ∷ []) (last_act_at + longest)
+      (all_map (λ timed. timed.at ≤ last_act_at) (λ timed. timed.at ≤ last_act_at + longest) (λ timed le. omega (arith, le)) (ready.list ++ acts ∷ []) acted_until)
+      last_act_at the_grant acted_holds (omega (arith, tmin_le-tmax book.site.rules)) (omega arith))
+
+  held_once : (sight : Sight) → Contains (sights its_history) sight → sight.read.inverter ≡ write.inverter → count_by (λ timed. is_look_of sight timed.event) ((ready.list ++ acts ∷ []) ++ reverts ∷ []) ≡ 1
+  held_once sight within its =
+      let is_its : Timed → Bool = λ timed. is_look_of sight timed.event in
+      omega (arith, ready.once sight within its, count_by-append is_its ready.list (acts ∷ []), count_by-append is_its (ready.list ++ acts ∷ []) (reverts ∷ []))
+
+  held_behaviour : IsBehaviour its_history write.inverter ((ready.list ++ acts ∷ []) ++ reverts ∷ [])
+  held_behaviour =
+      behaviour_of its_history write.inverter ((ready.list ++ acts ∷ []) ++ reverts ∷ []) held_start
+      (λ other moment is. revert_is_no_act reverts (record { at = moment; event = Act other }) other refl refl (sym (last_that-is is_change (ready.list ++ acts ∷ []) reverts [] refl refl) ∙ is))
+      held_once
+
+  pub may_hold : now_of book ≤ write.at + reach book.site.rules → MayHold its_history write
+  unfolding reach
+  may_hold current = record {
+    events = (ready.list ++ acts ∷ []) ++ reverts ∷ [];
+    behaviour = held_behaviour;
+    at = max (now_of book) last_act_at;
+    from = omega arith;
+    first = ready.list ++ acts ∷ [];
+    rest = reverts ∷ [];
+    cut = record {
+      parts = refl;
+      earlier = all_map (λ timed. timed.at ≤ last_act_at) (λ timed. timed.at ≤ max (now_of book) last_act_at) (λ timed le. omega (arith, le)) (ready.list ++ acts ∷ []) acted_until;
+      later = (omega (arith, current), tt);
+      looked = (tt, tt);
+    };
+    grant = the_grant;
+    of_write = refl;
+    acted = last_act_at;
+    holds = acted_holds;
+  }
+
+-- a commissioned life is tight
+pub tight : (book : BookRecord) → IsBook book → IsTight book
+unfolding live
+tight book kept write events within unread device =
+    let passes = Contains-filter (is_current book.site.rules (now_of book) write.inverter) (standing book.site.rules [] book.entries) write within in
+    let both = and_parts (eqb write.inverter write.inverter) (leb (now_of book) (write.at + reach book.site.rules)) passes.passes in
+    may_hold book kept write (stands_at book.site.rules [] book.entries write passes.within) unread events device (leb-true (now_of book) (write.at + reach book.site.rules) both.1)

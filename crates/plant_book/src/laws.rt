@@ -6,6 +6,7 @@ ghost use Rattle.plant_book.specs.Lifetime.{LiveOn, ChangesNothing};
 ghost use Rattle.plant_book.specs.History.{History, Grant, Sight, grants, IsHistory};
 ghost use Rattle.plant_book.specs.Behaviour.{IsBehaviour, IsUnseen, MayShow, acts_last, acts_and_shows};
 ghost use Rattle.plant_book.specs.Safe.{IsSafeAlways};
+ghost use Rattle.plant_book.specs.Tight.{IsTight};
 
 /// Every history is safe at every moment: whatever past it has that fits, and however often the plant was restarted.
 pub fn histories_are_safe()
@@ -32,4 +33,11 @@ pub fn reservations_live_on()
         → IsAnswer book book.entries entry → LiveOn book entry (with_entries book (book.entries ++ entry ∷ [])) }
     ensures refused { (book : BookRecord) (entry : Entry) → IsNext book.site book.start book.entries entry.call
         → IsAnswer book book.entries entry → ChangesNothing book entry (with_entries book (book.entries ++ entry ∷ [])) }
+{}
+
+/// A ledger that knows only the calls could free no write sooner: of a life that began with every inverter at its floor,
+/// each live write since whose grant no read of its inverter was answered may be held, by an inverter that follows the
+/// timed device, at a moment from the last of the book on.
+pub fn no_write_could_go_sooner()
+    ensures { (book : BookRecord) → IsBook book → IsTight book }
 {}

@@ -17,7 +17,7 @@ mod site;
 
 pub use book::{Book, ENTRY_BYTES_MAX, Entry};
 pub use call::{Call, LIVE_MAX, MOMENT_MAX, REQUESTS_MAX, Read, Reply, WISH_MAX, Write};
-pub use laws::{behaviours_exist, histories_are_safe, reservations_live_on};
+pub use laws::{behaviours_exist, histories_are_safe, no_write_could_go_sooner, reservations_live_on};
 pub use port::Port;
 pub use replies::{answer, goal_plain, is_stopped, reserved_plain, total_plain};
 pub use share_policy::{Claim, Policy};
