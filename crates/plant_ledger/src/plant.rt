@@ -4,6 +4,7 @@ ghost use Rattle.plant_book.specs.Calls.{moment, named};
 ghost use Rattle.plant_book.specs.Answer.{goal_raw, is_stopped};
 ghost use Rattle.plant_book.specs.Reserved as sums;
 ghost use Rattle.plant_book.specs.Answered.{IsBook, IsInRange};
+ghost use Rattle.plant_book.specs.Tight.{IsTight};
 ghost use Rattle.plant_ledger.specs.Opening.{open_fault, ticket_for};
 ghost use Rattle.plant_ledger.specs.Release.{back_of};
 ghost use Rattle.plant_ledger.specs.Plant.{entry_of, entered, right_reply, IsSafeLife, LeavesReservations};
@@ -12,7 +13,8 @@ use crate::opening::{OpenFault, refuse};
 use crate::ticket::{Ticket, ticket_with};
 use limiter_num::NoMemory;
 use plant_book::{
-    Book, Call, Entry, MOMENT_MAX, Reply, Site, Write, answer, goal_plain, is_stopped, reserved_plain, total_plain,
+    Book, Call, Entry, MOMENT_MAX, Reply, Site, Write, answer, goal_plain, is_stopped,
+    reserved_plain, total_plain,
 };
 use std::alloc::Global;
 use std::marker::Model;
@@ -69,6 +71,7 @@ impl Plant {
         ensures openable { OnOk result (open_fault site ≡ None) }
         ensures kept { IfOk result (λ plant. IsBook plant) }
         ensures safe { IfOk result (λ plant. IsSafeLife plant) }
+        ensures tight { IfOk result (λ plant. IsTight plant) }
 
         // Refused by the first cause, and for want of memory only where no cause stands.
         ensures refused { IfErr result (λ fault. open_fault site ≡ Some fault
@@ -106,8 +109,10 @@ impl Plant {
         ensures kept { IsBook self.new }
         ensures capped { sums.total self.new ≤ self.new.site.cap }
 
-        // Whatever past that fits the life followed, and whatever inverters did that follow the timed device.
+        // Whatever past that fits the life followed, and whatever inverters did that follow the timed device. And no
+        // ledger that knows only the calls could free a write sooner.
         ensures safe { IsSafeLife self.new }
+        ensures tight { IsTight self.new }
     {
         let calls = self.calls();
         if calls >= self.site().room {
@@ -152,13 +157,24 @@ impl Plant {
         ensures kept { IsBook self.new }
         ensures capped { sums.total self.new ≤ self.new.site.cap }
         ensures safe { IsSafeLife self.new }
+        ensures tight { IsTight self.new }
     {
         let calls = self.calls();
         if calls >= self.site().room {
             return Err((BookFull { calls }, ticket));
         }
-        let Write { inverter, link, number, .. } = ticket.spend();
-        Ok(self.enter(Call::Back { at, inverter, link, number }))
+        let Write {
+            inverter,
+            link,
+            number,
+            ..
+        } = ticket.spend();
+        Ok(self.enter(Call::Back {
+            at,
+            inverter,
+            link,
+            number,
+        }))
     }
 
     /// What the inverter may aim at, at the last moment.

@@ -9,3 +9,5 @@ mod lives;
 
 pub use lives::{Lives, RestartFault};
 
+#[cfg(test)]
+mod tests;

@@ -1,6 +1,8 @@
 use Rattle.std.proofs.Common.{sym, subst}
 use Rattle.plant_book.specs.Book.{BookRecord}
 use Rattle.plant_book.proofs.Safe.{safe_life}
+use Rattle.plant_book.proofs.Tight.{tight}
+use Rattle.plant_book.specs.Tight.{IsTight}
 use Rattle.plant_book.proofs.Growth.{empty_book, IsBook-empty}
 use Rattle.plant_ledger.specs.Plant.{IsSafeLife}
 use Rattle.plant_ledger.proofs.plant.Plant.open.Goals as goal
@@ -11,3 +13,8 @@ returns-clause-safe c =
     let book = empty_book site c.args.start in
     subst (λ (b : BookRecord). IsSafeLife b) (sym c.in-Ok.ensures)
     (λ past its_past. safe_life book past (IsBook-empty site c.args.start c.in_ok-refuse.ensures.openable c.requires.start) its_past)
+
+pub returns-clause-tight : goal.returns-clause-tight
+returns-clause-tight c =
+    let site = c.args.site in
+    subst (λ (b : BookRecord). IsTight b) (sym c.in-Ok.ensures) (tight (empty_book site c.args.start) (IsBook-empty site c.args.start c.in_ok-refuse.ensures.openable c.requires.start))

@@ -1,4 +1,4 @@
-use Rattle.plant_ledger.proofs.Kept.{kept_capped, kept_safe}
+use Rattle.plant_ledger.proofs.Kept.{kept_capped, kept_safe, kept_tight}
 use Rattle.plant_ledger.proofs.plant.Plant.release.Goals as goal
 
 pub returns-then-calls-site-clause-capped : goal.returns-then-calls-site-clause-capped
@@ -12,3 +12,9 @@ returns-clause-capped c = kept_capped _ c.enter.ensures.kept
 
 pub returns-clause-safe : goal.returns-clause-safe
 returns-clause-safe c = kept_safe _ c.enter.ensures.kept
+
+pub returns-then-calls-site-clause-tight : goal.returns-then-calls-site-clause-tight
+returns-then-calls-site-clause-tight c = kept_tight _ c.calls-calls.ensures.kept
+
+pub returns-clause-tight : goal.returns-clause-tight
+returns-clause-tight c = kept_tight _ c.enter.ensures.kept
