@@ -7,6 +7,7 @@
 
 mod bytes_sink;
 mod bytes_source;
+mod front;
 mod schedule;
 mod sink;
 mod source;

@@ -26,5 +26,5 @@ copied bytes slice from into place count room whole is number length-is same =
 pub returns-clause-bytes : goal.returns-clause-bytes
 returns-clause-bytes c =
     let call = c.copy_front-count in
-    let both = copied c.self.inside.bytes.items c.deref.result.now _ call.new.into c.self.inside.place call.result (length c.args.into.now) c.deref.ensures.value refl call.ensures.count (sym call.auto.into) call.ensures.bytes in
+    let both = copied c.self.inside.bytes.items c.deref.result.now _ call.new.into c.self.inside.place call.result (length c.args.into.now) c.deref.ensures.value refl call.ensures.count (sym call.auto.into) call.ensures.front in
     (ap (λ (s : SourceState). s.left) (sym c.self.view_is) ∙ both.0, both.1)
