@@ -1,5 +1,5 @@
 -- What contracts see of the fakes in memory, and the state of each after each call.
-use Rattle.std.specs.Prelude.{ℕ, List, [], ◌++◌, drop, Contains}
+use Rattle.std.specs.Prelude.{◌≡◌, ℕ, ◌⊎◌, List, [], ◌++◌, drop, Contains}
 use Rattle.world_traits.specs.Causes.{one_more}
 
 -- the numbers of the calls that fail, the count of calls so far and the count of faults
@@ -23,6 +23,10 @@ after_success schedule = record schedule { calls = one_more schedule.calls }
 -- after a call that failed: one call more and one fault more
 abbrev pub after_failure : ScheduleState → ScheduleState
 after_failure schedule = record schedule { calls = one_more schedule.calls; faults = one_more schedule.faults }
+
+-- the state after a call that failed: the first where it was to fail, and the second where it wasn't and memory ran out
+abbrev pub IsRefusedOrStarved : {State : Type 0} → Type 0 → State → State → State → Type 0
+IsRefusedOrStarved WasToFail refused starved state = WasToFail × (state ≡ refused) ⊎ ¬ WasToFail × (state ≡ starved)
 
 -- the bytes that are left, and which calls fail
 pub record SourceState : Type 0 where

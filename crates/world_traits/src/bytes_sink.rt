@@ -1,8 +1,8 @@
-ghost use Rattle.std.specs.Prelude.{◌≡◌, ◌<◌, ◌⊎◌, IsErr, IfOk, OnErr, OnOk, Some, length};
+ghost use Rattle.std.specs.Prelude.{◌≡◌, ◌<◌, IsErr, IfOk, OnErr, OnOk, Some, length};
 ghost use Rattle.std.specs.Io.{WritesAtMost};
 ghost use Rattle.std.specs.Io.KnownBytes.{WriteAppends};
 ghost use Rattle.world_traits.specs.Causes.{HasCause};
-ghost use Rattle.world_traits.specs.Fakes.{FailsNext, after_failed_write, after_starved_write, after_write, new_sink};
+ghost use Rattle.world_traits.specs.Fakes.{FailsNext, IsRefusedOrStarved, after_failed_write, after_starved_write, after_write, new_sink};
 
 use crate::schedule::Schedule;
 use crate::sink::{Sink, WriteFailed};
@@ -68,8 +68,8 @@ impl Sink for BytesSink {
         ensures listed_fails { FailsNext self.old.schedule → IsErr result }
         ensures whole { IfOk result (λ count. count ≡ length bytes.now) }
         ensures ok { OnOk result (self.new ≡ after_write self.old bytes.now) }
-        ensures err { OnErr result (FailsNext self.old.schedule × (self.new ≡ after_failed_write self.old)
-            ⊎ ¬ FailsNext self.old.schedule × (self.new ≡ after_starved_write self.old)) }
+        ensures err { OnErr result (IsRefusedOrStarved (FailsNext self.old.schedule)
+            (after_failed_write self.old) (after_starved_write self.old) self.new) }
     {
         if self.schedule.next_fails() {
             return Err(WriteFailed);

@@ -4,7 +4,7 @@ ghost use Rattle.std.specs.Io.KnownBytes.{ReadConsumes};
 ghost use Rattle.world_traits.specs.Causes.{HasCause};
 ghost use Rattle.world_traits.specs.Fakes.{FailsNext, after_failed_read, after_read, new_source};
 
-use crate::front::copy_front;
+use crate::rest::Rest;
 use crate::schedule::Schedule;
 use crate::source::{ReadFailed, Source};
 use std::marker::Model;
@@ -12,20 +12,16 @@ use std::marker::Model;
 /// A source over bytes in memory. It fails exactly at the calls whose numbers are listed, counted from 0.
 #[derive(Debug, Drop)]
 pub struct BytesSource {
-    bytes: Vec<u8>,
-    place: usize,
+    rest: Rest,
     schedule: Schedule,
 }
 
 impl Model for BytesSource {
-    ghost use Rattle.std.specs.Prelude.{◌≤◌, vec_len, drop};
     ghost use Rattle.world_traits.specs.Fakes.{SourceState};
 
     ghost Value = { SourceState };
 
-    ghost view = { λ s. record { left = drop s.place s.bytes.items; schedule = s.schedule } };
-
-    ghost invariant = { λ s. s.place ≤ vec_len s.bytes };
+    ghost view = { λ s. record { left = s.rest; schedule = s.schedule } };
 }
 
 impl BytesSource {
@@ -34,8 +30,7 @@ impl BytesSource {
         ensures { result ≡ new_source bytes.items failing.items }
     {
         BytesSource {
-            bytes,
-            place: 0,
+            rest: Rest::new(bytes),
             schedule: Schedule::new(failing),
         }
     }
@@ -62,8 +57,6 @@ impl Source for BytesSource {
         if self.schedule.next_fails() {
             return Err(ReadFailed);
         }
-        let count = copy_front(&self.bytes[self.place..], into);
-        self.place += count;
-        Ok(count)
+        Ok(self.rest.give(into))
     }
 }
