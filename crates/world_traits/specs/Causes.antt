@@ -1,5 +1,5 @@
--- When a call may say that the outside failed: only where the count of faults rose in that call.
-use Rattle.std.specs.Prelude.{◌≡◌, ℕ, ◌+◌, ◌-◌, ◌^◌, ◌≤◌, min, Result, OnErr}
+-- When a call may say that the outside failed: exactly as the count of faults moves in that call.
+use Rattle.std.specs.Prelude.{◌≡◌, ℕ, ◌+◌, ◌-◌, ◌^◌, ◌≤◌, min, Result, OnErr, OnOk}
 
 -- a count of 64 bits after one more, or the same at its end
 abbrev pub one_more : ℕ → ℕ
@@ -9,7 +9,8 @@ one_more count = min (count + 1) (2 ^ 64 - 1)
 abbrev pub Rose : ℕ → ℕ → Type 0
 Rose before now = one_more before ≤ now
 
--- the count has not fallen, and it rose where the call failed
+-- the count has not fallen, it rose where the call failed, and it stands where the call worked
 pub record HasCause {T E : Type 0} (before now : ℕ) (result : Result T E) : Type 0 where
   pub later : before ≤ now
   pub failed : OnErr result (Rose before now)
+  pub kept : OnOk result (now ≡ before)

@@ -1,7 +1,8 @@
-ghost use Rattle.std.specs.Prelude.{◌≡◌, ◌<◌, ◌≤◌, ◌↔◌, ◌⊎◌, [], ◌++◌, Contains, IsErr, IfOk, OnErr, Some, length, ℕ, List};
+ghost use Rattle.std.specs.Prelude.{◌≡◌, ◌<◌, IsErr, IfOk, OnErr, OnOk, Some, length};
 ghost use Rattle.std.specs.Io.{WritesAtMost};
 ghost use Rattle.std.specs.Io.KnownBytes.{WriteAppends};
-ghost use Rattle.world_traits.specs.Causes.{HasCause, Rose};
+ghost use Rattle.world_traits.specs.Causes.{HasCause};
+ghost use Rattle.world_traits.specs.Fakes.{FailsNext, IsRefusedOrStarved, after_failed_write, after_starved_write, after_write, new_sink};
 
 use crate::schedule::Schedule;
 use crate::sink::{Sink, WriteFailed};
@@ -26,8 +27,9 @@ impl Model for BytesSink {
 }
 
 impl BytesSink {
+    /// A sink that took nothing yet, whose calls with the numbers in `failing` fail.
     pub fn new(alloc: Global, failing: Vec<u32>) -> Self
-        ensures { result ≡ record { taken = []; schedule = record { failing = failing.items; calls = 0; faults = 0 }; starved = 0 } }
+        ensures { result ≡ new_sink failing.items }
     {
         BytesSink {
             taken: Vec::new(alloc),
@@ -61,8 +63,13 @@ impl Sink for BytesSink {
         ensures some { IfOk result (λ count. 0 < length bytes.now → 0 < count) }
         ensures bytes { WriteAppends (Some self.old.taken) (Some self.new.taken) result bytes.now }
         ensures cause { HasCause self.old.schedule.faults self.new.schedule.faults result }
-        ensures listed_fails { Contains self.old.schedule.failing self.old.schedule.calls → IsErr result }
-        ensures fails { OnErr result (Contains self.old.schedule.failing self.old.schedule.calls ⊎ Rose self.old.starved self.new.starved) }
+
+        // It takes the piece whole, and fails where that is listed and where memory runs out.
+        ensures listed_fails { FailsNext self.old.schedule → IsErr result }
+        ensures whole { IfOk result (λ count. count ≡ length bytes.now) }
+        ensures ok { OnOk result (self.new ≡ after_write self.old bytes.now) }
+        ensures err { OnErr result (IsRefusedOrStarved (FailsNext self.old.schedule)
+            (after_failed_write self.old) (after_starved_write self.old) self.new) }
     {
         if self.schedule.next_fails() {
             return Err(WriteFailed);

@@ -1,8 +1,10 @@
-ghost use Rattle.std.specs.Prelude.{◌≡◌, ◌≤◌, ◌↔◌, [], Contains, IsErr, Some, length, take, min};
+ghost use Rattle.std.specs.Prelude.{◌≡◌, ◌↔◌, ◌++◌, IsErr, IfOk, OnErr, Some, length, take, drop, min};
 ghost use Rattle.std.specs.Io.{ReadsAtMost};
 ghost use Rattle.std.specs.Io.KnownBytes.{ReadConsumes};
 ghost use Rattle.world_traits.specs.Causes.{HasCause};
+ghost use Rattle.world_traits.specs.Fakes.{FailsNext, after_failed_read, after_read, new_source};
 
+use crate::rest::Rest;
 use crate::schedule::Schedule;
 use crate::source::{ReadFailed, Source};
 use std::marker::Model;
@@ -10,43 +12,28 @@ use std::marker::Model;
 /// A source over bytes in memory. It fails exactly at the calls whose numbers are listed, counted from 0.
 #[derive(Debug, Drop)]
 pub struct BytesSource {
-    bytes: Vec<u8>,
-    place: usize,
+    rest: Rest,
     schedule: Schedule,
 }
 
 impl Model for BytesSource {
-    ghost use Rattle.std.specs.Prelude.{◌≤◌, vec_len, drop};
     ghost use Rattle.world_traits.specs.Fakes.{SourceState};
 
     ghost Value = { SourceState };
 
-    ghost view = { λ s. record { left = drop s.place s.bytes.items; schedule = s.schedule } };
-
-    ghost invariant = { λ s. s.place ≤ vec_len s.bytes };
+    ghost view = { λ s. record { left = s.rest; schedule = s.schedule } };
 }
 
 impl BytesSource {
+    /// A source of these bytes, whose calls with the numbers in `failing` fail.
     pub fn new(bytes: Vec<u8>, failing: Vec<u32>) -> Self
-        ensures left { result.left ≡ bytes.items }
-        ensures schedule { result.schedule ≡ record { failing = failing.items; calls = 0; faults = 0 } }
+        ensures { result ≡ new_source bytes.items failing.items }
     {
         BytesSource {
-            bytes,
-            place: 0,
+            rest: Rest::new(bytes),
             schedule: Schedule::new(failing),
         }
     }
-}
-
-/// Copies as many bytes as both have to the front, and tells how many.
-fn copy_front(from: &[u8], into: &mut [u8]) -> usize
-    ensures count { result ≡ min (length from.now) (length into.old) }
-    ensures bytes { take result into.new ≡ take result from.now }
-{
-    let count = from.len().min(into.len());
-    into[..count].copy_from_slice(&from[..count]);
-    count
 }
 
 impl Source for BytesSource {
@@ -58,13 +45,18 @@ impl Source for BytesSource {
         ensures bound { ReadsAtMost result into.new }
         ensures bytes { ReadConsumes (Some self.old.left) (Some self.new.left) result into.new }
         ensures cause { HasCause self.old.schedule.faults self.new.schedule.faults result }
-        ensures fails { IsErr result ↔ Contains self.old.schedule.failing self.old.schedule.calls }
+
+        // It fails exactly where that is listed; else it gives as many bytes as are left and find room.
+        ensures fails { IsErr result ↔ FailsNext self.old.schedule }
+        ensures count { IfOk result (λ count. count ≡ min (length self.old.left) (length into.old)) }
+        ensures given { IfOk result (λ count. into.new ≡ take count self.old.left ++ drop count into.old) }
+        ensures ok { IfOk result (λ count. self.new ≡ after_read self.old count) }
+        ensures err { OnErr result (self.new ≡ after_failed_read self.old) }
+        ensures untouched { OnErr result (into.new ≡ into.old) }
     {
         if self.schedule.next_fails() {
             return Err(ReadFailed);
         }
-        let count = copy_front(&self.bytes[self.place..], into);
-        self.place += count;
-        Ok(count)
+        Ok(self.rest.give(into))
     }
 }

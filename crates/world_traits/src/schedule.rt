@@ -1,6 +1,7 @@
 ghost use Rattle.std.specs.Prelude.{◌≡◌, ◌≤◌, ◌↔◌, Contains, IsTrue};
 ghost use Rattle.std.specs.Bool.{OnTrue, OnFalse};
 ghost use Rattle.world_traits.specs.Causes.{one_more};
+ghost use Rattle.world_traits.specs.Fakes.{FailsNext, after_failure, after_success, new_schedule};
 
 use std::marker::Model;
 
@@ -21,8 +22,9 @@ impl Model for Schedule {
 }
 
 impl Schedule {
+    /// A schedule before the first call.
     pub fn new(failing: Vec<u32>) -> Self
-        ensures { result ≡ record { failing = failing.items; calls = 0; faults = 0 } }
+        ensures { result ≡ new_schedule failing.items }
     {
         Schedule {
             failing,
@@ -33,12 +35,10 @@ impl Schedule {
 
     /// Counts a call, and a fault where its number is one of those that fail. Answers whether it is.
     pub fn next_fails(&mut self) -> bool
-        ensures listed { IsTrue result ↔ Contains self.old.failing self.old.calls }
-        ensures failing { self.new.failing ≡ self.old.failing }
-        ensures calls { self.new.calls ≡ one_more self.old.calls }
+        ensures listed { IsTrue result ↔ FailsNext self.old }
+        ensures fails { OnTrue result (self.new ≡ after_failure self.old) }
+        ensures works { OnFalse result (self.new ≡ after_success self.old) }
         ensures later { self.old.faults ≤ self.new.faults }
-        ensures fault { OnTrue result (self.new.faults ≡ one_more self.old.faults) }
-        ensures no_fault { OnFalse result (self.new.faults ≡ self.old.faults) }
     {
         let fails = self.lists(self.calls);
         self.calls = self.calls.saturating_add(1);
@@ -48,7 +48,7 @@ impl Schedule {
         fails
     }
 
-    /// Counts a fault that isn't in the list.
+    /// Counts a fault of the call that was counted last, where that call isn't one of those that fail.
     pub fn fault(&mut self)
         ensures counted { self.new ≡ record self.old { faults = one_more self.old.faults } }
         ensures later { self.old.faults ≤ self.new.faults }
