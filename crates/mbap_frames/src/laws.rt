@@ -3,8 +3,20 @@ ghost use Rattle.std.specs.Prelude.{◌≡◌, ℕ, List, [], ◌++◌};
 ghost use Rattle.std.specs.List.{AllByRecursion};
 ghost use Rattle.modbus_pdu.specs.Grammar.{IsByte};
 ghost use Rattle.mbap_frames.specs.declared.frame.Frame.{Frame};
+ghost use Rattle.mbap_frames.specs.Frame.{frame_limit};
 ghost use Rattle.mbap_frames.specs.Stream.{IsStream, frames_spelling};
 ghost use Rattle.mbap_frames.specs.Feed.{Call, AreCalls, stream_of, frames_among};
+
+use crate::frame::{FrameBytes, MAX_FRAME};
+
+/// A frame has no more bytes than the standard lets it have, and its bytes have room for just so many, which the
+/// number is.
+pub fn limit_of_the_standard(bytes: &FrameBytes) -> usize
+    ensures frame { MAX_FRAME ≡ frame_limit }
+    ensures room { result ≡ frame_limit }
+{
+    bytes.capacity()
+}
 
 /// A stream has one reading.
 pub fn one_reading_a_stream()
