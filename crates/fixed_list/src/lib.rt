@@ -1,9 +1,9 @@
 //! A short list that lies in the value itself, and takes no memory.
 //!
-//! The bytes of a protocol data unit and the registers of one read or write (`Pdu` and `Regs` of `modbus_pdu`) and
-//! the bytes of a frame (`FrameBytes` of `mbap_frames`) are such lists. Contracts see a `FixedList` as the list of its
-//! elements. It is `Clone` and not `Copy`, as the vector of fixed capacity that it is kept in; a clone takes no memory
-//! where the elements take none.
+//! The bytes of a protocol data unit and the registers of one read or write (`Pdu` and `Regs` of
+//! `modbus_pdu`) and the bytes of a frame (`FrameBytes` of `mbap_frames`) are such lists. Contracts see a
+//! `FixedList` as the list of its elements. It is `Clone` and not `Copy`, as the vector of fixed capacity
+//! that it is kept in; a clone takes no memory where those of its elements take none.
 #![tactic(auto)]
 
 ghost use Rattle.std.specs.Prelude.{◌≡◌, ℕ, slice_index_or, ◌+◌, ◌≤◌, ◌<◌, ◌==◌, ◌++◌, ◌∷◌, [], length};

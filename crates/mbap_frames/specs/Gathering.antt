@@ -16,7 +16,8 @@ pub record IsKept (bytes : List ℕ) : Type 0 where
   pub high : 6 < length bytes → length_of bytes ≤ greatest_length
   pub end : 6 < length bytes → length bytes < 6 + length_of bytes
 
--- where the header wants to be looked at next: behind the protocol number, behind the length, at the frame's end
+-- where the header wants to be looked at next: behind the protocol number, behind the length, at the end of
+-- the frame
 abbrev pub Wants : List ℕ → ℕ → Type 0
 Wants bytes end =
     ((length bytes < 4) × (end ≡ 4))

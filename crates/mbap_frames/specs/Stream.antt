@@ -57,3 +57,7 @@ pub record IsStream (stream : List ℕ) (frames : List Frame) (rest : List ℕ) 
   pub whole : stream ≡ frames_spelling frames ++ rest
   pub each : AllByRecursion IsFrame frames
   pub end : IsRest rest
+
+-- A stream is these frames, and behind them stands this fault.
+abbrev pub HasFaultBehind : List ℕ → List Frame → FrameFault → Type 0
+HasFaultBehind stream frames fault = (rest : List ℕ) × IsStream stream frames rest × HasFault rest fault

@@ -6,9 +6,12 @@ ghost use Rattle.mbap_frames.specs.Frame.{IsFrame, frame_spelling, frame_limit};
 
 use fixed_list::FixedList;
 use modbus_pdu::Pdu;
+use std::fmt;
+use std::fmt::{Display, Formatter};
 use thiserror::Error;
 
-/// The most bytes that a frame has: a header of seven and a PDU (Modbus Application Protocol V1.1b3, section 4.1).
+/// The most bytes that a frame has: a header of seven and a PDU (Modbus Application Protocol V1.1b3, section
+/// 4.1).
 pub const MAX_FRAME: usize = 260;
 
 // The protocol number of Modbus (section 3.1.3).
@@ -32,11 +35,24 @@ pub type FrameBytes = FixedList<u8, MAX_FRAME>;
 #[derive(Clone, Copy, Debug, PartialEq, Eq, Error)]
 pub enum FrameFault {
     /// This protocol number, which isn't 0.
-    #[error("badprotocol {0}")]
     BadProtocol(u16),
     /// The header names this length, which is below 2 or above 254.
-    #[error("badlength {0}")]
     BadLength(u16),
+}
+
+/// The variant's name in lower-case letters and its number, one space between.
+impl Display for FrameFault {
+    ghost use Rattle.std.specs.Prelude.{Some};
+    ghost use Rattle.mbap_frames.specs.FaultText.{fault_text};
+
+    ghost output = { λ fault. Some (fault_text fault) };
+
+    fn fmt<W: fmt::Write>(&self, f: &mut Formatter<W>) -> fmt::Result {
+        match self {
+            FrameFault::BadProtocol(number) => write!(f, "badprotocol {number}"),
+            FrameFault::BadLength(length) => write!(f, "badlength {length}"),
+        }
+    }
 }
 
 /// The bytes of a frame: the header (section 3.1.3) and the PDU.

@@ -31,8 +31,8 @@ pub struct Fed {
     pub got: Got,
 }
 
-/// Reads frames from a stream that comes in pieces. Contracts see the bytes that it keeps: those that came of a frame
-/// which isn't whole, or those that show a fault.
+/// Reads frames from a stream that comes in pieces. Contracts see the bytes that it keeps: those that came of
+/// a frame which isn't whole, or those that show a fault.
 #[derive(Debug, Drop)]
 pub struct Frames {
     kept: FrameBytes,
@@ -59,8 +59,9 @@ impl Frames {
         }
     }
 
-    /// Takes the next bytes of the stream, up to the end of the first whole frame, or up to the bytes that show a
-    /// fault. Those of the piece that it didn't use are fed again. After a fault it uses none, and answers that fault.
+    /// Takes the next bytes of the stream, up to the end of the first whole frame, or up to the bytes that
+    /// show a fault. Those of the piece that it didn't use are fed again. After a fault it uses none, and
+    /// answers that fault.
     pub fn feed(&mut self, piece: &[u8]) -> Fed
         // What was kept and the piece are the frame, what is kept now and what wasn't used.
         ensures step { IsFed self.old piece.now result self.new }

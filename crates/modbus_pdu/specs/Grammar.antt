@@ -73,8 +73,9 @@ IsRequest bytes (WriteRegs start values) =
     × (bytes
     ≡ write_function ∷ word start ++ word (length values) ++ (2 * length values) ∷ words values)
 
--- A reply's bytes. Function 03 has the byte count and the registers; function 16 has the starting address and the
--- quantity of registers; an exception has the function with its highest bit set, and any code (section 7).
+-- A reply's bytes. Function 03 has the byte count and the registers; function 16 has the starting address and
+-- the quantity of registers; an exception has the function with its highest bit set, and any code (section
+-- 7).
 abbrev pub IsReply : List ℕ → Reply → Type 0
 IsReply bytes (reply.Regs values) =
     IsReadCount (length values) × AllByRecursion IsWord values

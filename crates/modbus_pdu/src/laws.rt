@@ -11,8 +11,8 @@ use crate::pdu::{
     WRITE_REGISTERS,
 };
 
-/// Each request has one spelling, and each spelling is of one request: what is encoded is decoded again, and the
-/// other way round.
+/// Each request has one spelling, and each spelling is of one request: what is encoded is decoded again, and
+/// the other way round.
 pub fn one_spelling_a_request()
     ensures one_spelling { (a b : List ℕ) (request : Request)
         → IsRequest a request → IsRequest b request → a ≡ b }
@@ -25,8 +25,8 @@ pub fn one_spelling_a_reply()
     ensures one_reply { (bytes : List ℕ) (x y : Reply) → IsReply bytes x → IsReply bytes y → x ≡ y }
 {}
 
-/// The limits are those of the standard. A PDU and the registers of a request or reply have room for just as much,
-/// which the two numbers are.
+/// The limits are those of the standard. A PDU and the registers of a request or reply have room for just as
+/// much, which the two numbers are.
 pub fn limits_of_the_standard(pdu: &Pdu, registers: &Regs) -> (usize, usize)
     ensures pdu { (MAX_PDU ≡ pdu_limit) × (result.0 ≡ pdu_limit) }
     ensures registers { (MAX_REGISTERS ≡ read_limit) × (result.1 ≡ read_limit) }

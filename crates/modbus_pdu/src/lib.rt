@@ -1,6 +1,6 @@
-//! The protocol data units of Modbus (Modbus Application Protocol V1.1b3) that the controller speaks: reads and
-//! writes of holding registers, and their replies. What `decode_request` and `decode_reply` take is the grammar of
-//! `specs/Grammar.antt`, and what `encode_request` and `encode_reply` write is in it.
+//! The protocol data units of Modbus (Modbus Application Protocol V1.1b3) that the controller speaks: reads
+//! and writes of holding registers, and their replies. What `decode_request` and `decode_reply` take is the
+//! grammar of `specs/Grammar.antt`, and what `encode_request` and `encode_reply` write is in it.
 #![tactic(auto)]
 
 mod decoding;

@@ -63,9 +63,9 @@ pub enum Reply {
     Exception {
         /// The function of the request, 3 or 16.
         function: u8,
-        /// Why. The standard names 1 illegal function, 2 illegal data address, 3 illegal data value, 4 server device
-        /// failure, 5 acknowledge, 6 server device busy, 8 memory parity error, 10 gateway path unavailable and
-        /// 11 gateway target device failed to respond; any other code is taken too.
+        /// Why. The standard names 1 illegal function, 2 illegal data address, 3 illegal data value, 4 server
+        /// device failure, 5 acknowledge, 6 server device busy, 8 memory parity error, 10 gateway path
+        /// unavailable and 11 gateway target device failed to respond; any other code is taken too.
         code: u8,
     },
 }
