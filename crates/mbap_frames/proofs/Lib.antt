@@ -1,6 +1,7 @@
 pub mod Headers
 pub mod Gathered
 pub mod Streams
-pub mod Call
-pub mod Calls
+pub mod OneFeeding
+pub mod Feedings
+pub mod Faults
 pub mod Readings

@@ -11,7 +11,7 @@ use Rattle.mbap_frames.specs.declared.frames.Got.{Got}
 use Rattle.mbap_frames.specs.declared.frames.Got.TheVariants.{More, One, Bad}
 use Rattle.mbap_frames.specs.Frame.{IsFrame, frame_spelling}
 use Rattle.mbap_frames.specs.Stream.{IsStream, frames_spelling}
-use Rattle.mbap_frames.proofs.Call.{StandsFirst}
+use Rattle.mbap_frames.proofs.OneFeeding.{StandsFirst}
 
 -- what stands first in bytes, whatever they are
 record Head (bytes : List ℕ) : Type 0 where

@@ -1,11 +1,23 @@
 -- Two readings of one stream.
-use Rattle.std.proofs.Common.{◌≡◌, ℕ, inl, inr, List, [], ◌∷◌, ◌++◌, refl, sym, ◌∙◌, append_assoc}
+use Rattle.std.proofs.Common.{◌≡◌, ℕ, inl, inr, List, [], ◌∷◌, ◌++◌, refl, sym, ap, ◌∙◌, append_assoc}
 use Rattle.std.specs.List.{AllByRecursion}
 use Rattle.std.proofs.lemmas.List.{append-nil}
+use Rattle.std.proofs.lemmas.List.Concat.{flat_map-append}
 use Rattle.mbap_frames.specs.declared.frame.Frame.{Frame}
 use Rattle.mbap_frames.specs.Frame.{IsFrame, Begins, frame_spelling}
-use Rattle.mbap_frames.specs.Stream.{IsRest, IsStream, frames_spelling}
-use Rattle.mbap_frames.proofs.Headers.{same_frame, unfinished_no_frame, fault_no_frame}
+use Rattle.mbap_frames.specs.declared.frame.FrameFault.{FrameFault}
+use Rattle.mbap_frames.specs.Stream.{IsRest, IsStream, HasFault, HasFaultBehind, frames_spelling}
+use Rattle.mbap_frames.proofs.Headers.{same_frame, HasFault-append, unfinished_no_frame, fault_no_frame}
+
+-- frames behind frames are frames
+pub all_frames : (frames later : List Frame) → AllByRecursion IsFrame frames → AllByRecursion IsFrame later → AllByRecursion IsFrame (frames ++ later)
+all_frames [] later each more = more
+all_frames (f ∷ frames) later each more = (each.0, all_frames frames later each.1 more)
+
+-- their bytes, with bytes behind them
+pub spelling-append : (frames later : List Frame) (rest : List ℕ) → frames_spelling (frames ++ later) ++ rest ≡ frames_spelling frames ++ (frames_spelling later ++ rest)
+spelling-append frames later rest =
+    ap (λ (t : List ℕ). t ++ rest) (flat_map-append frame_spelling frames later) ∙ append_assoc (frames_spelling frames) (frames_spelling later) rest
 
 -- a rest begins with no frame
 pub rest_no_frame : (bytes : List ℕ) (frame : Frame) → IsRest bytes → Begins bytes frame → ⊥
@@ -44,3 +56,36 @@ one_reading stream frames others rest end x y =
     let first = first_frames frames others rest end x.each y.each y.end (sym x.whole ∙ y.whole) in
     let none = none_later frames first.later rest end first.later_are x.end first.rest_is in
     (none.0 ∙ sym first.frames_are, none.1)
+
+-- What stands behind known frames reads as the later ones of the stream, and the other way round.
+pub read_behind : (frames others : List Frame) (behind rest : List ℕ) → AllByRecursion IsFrame frames → IsStream (frames_spelling frames ++ behind) others rest
+    → (later : List Frame) × (others ≡ frames ++ later) × IsStream behind later rest
+read_behind frames others behind rest each stream =
+    let first = first_frames frames others behind rest each stream.each stream.end stream.whole in
+    (first.later, first.frames_are, record { whole = first.rest_is; each = first.later_are; end = stream.end })
+
+pub read_in_front : (frames later : List Frame) (behind rest : List ℕ) → AllByRecursion IsFrame frames → IsStream behind later rest
+    → IsStream (frames_spelling frames ++ behind) (frames ++ later) rest
+read_in_front frames later behind rest each stream = record {
+  whole = ap (λ (t : List ℕ). frames_spelling frames ++ t) stream.whole ∙ sym (spelling-append frames later rest);
+  each = all_frames frames later each stream.each;
+  end = stream.end;
+}
+
+-- a fault that stands behind known frames
+pub fault_behind : (frames : List Frame) (behind : List ℕ) (fault : FrameFault) → AllByRecursion IsFrame frames → HasFault behind fault
+    → HasFaultBehind (frames_spelling frames ++ behind) frames fault
+fault_behind frames behind fault each stands =
+    (behind, record { whole = refl; each = each; end = inr (fault, stands) }, stands)
+
+pub fault_behind-append : (stream more : List ℕ) (frames : List Frame) (fault : FrameFault) → HasFaultBehind stream frames fault → HasFaultBehind (stream ++ more) frames fault
+fault_behind-append stream more frames fault has =
+    let stands : HasFault (has.0 ++ more) fault = HasFault-append has.0 more fault has.2 in (
+      has.0 ++ more,
+      record {
+        whole = ap (λ (t : List ℕ). t ++ more) has.1.whole ∙ append_assoc (frames_spelling frames) has.0 more;
+        each = has.1.each;
+        end = inr (fault, stands);
+      },
+      stands,
+    )

@@ -2,12 +2,12 @@
 ghost use Rattle.std.specs.Prelude.{◌≡◌, [], ◌++◌, ◌<◌, ◌↔◌, length};
 ghost use Rattle.mbap_frames.specs.declared.frame.Frame.{Frame};
 ghost use Rattle.mbap_frames.specs.declared.frame.FrameFault.{FrameFault};
-ghost use Rattle.mbap_frames.specs.Frame.{Begins};
+ghost use Rattle.mbap_frames.specs.Frame.{Begins, frame_limit};
 ghost use Rattle.mbap_frames.specs.Stream.{IsUnfinished, HasFault};
 ghost use Rattle.mbap_frames.specs.Feed.{IsFed};
 ghost use Rattle.mbap_frames.specs.Gathering.{IsKept};
 
-use crate::frame::{Frame, FrameBytes, FrameFault, MAX_FRAME};
+use crate::frame::{Frame, FrameBytes, FrameFault};
 use crate::gathering::{frame_of, gather, next_look};
 use std::marker::Model;
 
@@ -27,11 +27,12 @@ pub enum Got {
 pub struct Fed {
     /// How many bytes of the piece were used. The others are to be fed again.
     pub used: usize,
+    /// What the bytes so far came to.
     pub got: Got,
 }
 
-/// Reads frames from a stream that comes in pieces. Contracts see the bytes that it keeps: those that came of a frame which
-/// isn't whole, or those that show a fault.
+/// Reads frames from a stream that comes in pieces. Contracts see the bytes that it keeps: those that came of
+/// a frame which isn't whole, or those that show a fault.
 #[derive(Debug, Drop)]
 pub struct Frames {
     kept: FrameBytes,
@@ -58,8 +59,9 @@ impl Frames {
         }
     }
 
-    /// Takes the next bytes of the stream, up to the end of the first whole frame, or up to the bytes that show a fault. Those of
-    /// the piece that it didn't use are fed again. After a fault it uses none, and answers that fault.
+    /// Takes the next bytes of the stream, up to the end of the first whole frame, or up to the bytes that
+    /// show a fault. Those of the piece that it didn't use are fed again. After a fault it uses none, and
+    /// answers that fault.
     pub fn feed(&mut self, piece: &[u8]) -> Fed
         // What was kept and the piece are the frame, what is kept now and what wasn't used.
         ensures step { IsFed self.old piece.now result self.new }
@@ -67,14 +69,15 @@ impl Frames {
         // The answer is what stands first in what was kept and the piece.
         ensures more { (result.got ≡ Got.More) ↔ IsUnfinished (self.old ++ piece.now) }
         ensures one { (frame : Frame) → (result.got ≡ Got.One frame) ↔ Begins (self.old ++ piece.now) frame }
-        ensures bad { (fault : FrameFault) → (result.got ≡ Got.Bad fault) ↔ HasFault (self.old ++ piece.now) fault }
+        ensures bad { (fault : FrameFault)
+            → (result.got ≡ Got.Bad fault) ↔ HasFault (self.old ++ piece.now) fault }
 
         // A fault stands for good.
         ensures after_fault { (fault : FrameFault) → HasFault self.old fault
             → (result.used ≡ 0) × (result.got ≡ Got.Bad fault) × (self.new ≡ self.old) }
 
         // Less than one frame is kept.
-        ensures bound { length self.new < MAX_FRAME }
+        ensures bound { length self.new < frame_limit }
     {
         take_piece(&mut self.kept, piece)
     }

@@ -51,7 +51,7 @@ fn bytes_to_next_look(bytes: &[u8]) -> usize
     }
 }
 
-// Takes bytes of the piece until the frame is whole, a fault stands or the piece is used up, and says how many.
+// Takes bytes of the piece until the frame is whole, a fault stands or the piece is used up; says how many.
 pub(crate) fn gather(kept: &mut FrameBytes, piece: &[u8]) -> usize
     requires { IsGathered kept.old }
     ensures within { result ≤ length piece.now }

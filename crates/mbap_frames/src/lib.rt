@@ -1,5 +1,6 @@
-//! Modbus frames on a stream of bytes (Modbus Messaging on TCP/IP Implementation Guide V1.0b). The frames that `Frames::feed`
-//! hands out are those of the stream, however it is cut into pieces.
+//! Modbus frames on a stream of bytes (Modbus Messaging on TCP/IP Implementation Guide V1.0b). The frames
+//! that `Frames::feed` hands out, and the fault that it answers, are those of the stream, however it is cut
+//! into pieces.
 #![tactic(auto)]
 
 mod frame;
@@ -9,7 +10,10 @@ mod laws;
 
 pub use frame::{Frame, FrameBytes, FrameFault, MAX_FRAME, frame_bytes};
 pub use frames::{Fed, Frames, Got};
-pub use laws::{calls_read_the_stream, one_reading_a_stream};
+pub use laws::{
+    calls_find_the_fault, calls_read_the_stream, known_frames_are_first, limit_of_the_standard,
+    one_reading_a_stream,
+};
 
 #[cfg(test)]
 mod tests;

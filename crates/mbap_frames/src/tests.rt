@@ -1,5 +1,5 @@
 use super::*;
-use modbus_pdu::{Reply, decode_reply, decode_request, encode_request};
+use modbus_pdu::{Pdu, Reply, decode_reply, decode_request, encode_request};
 use std::process::Abort;
 use std::test::Fail;
 
@@ -106,6 +106,7 @@ fn requests_are_read_and_written_again(rt: HostRuntime) -> Result<(), Fail> {
             pdu: encode_request(&request),
         };
         assert_eq!(rt; frame_bytes(&again).as_slice(), bytes);
+        assert_eq!(rt; limit_of_the_standard(&frame_bytes(&again)), 260);
     }
     Ok(())
 }
@@ -150,5 +151,29 @@ fn a_fault_stands_for_good(rt: HostRuntime) -> Result<(), Fail> {
         );
         assert_eq!(rt; format!(in rt.alloc(); "{fault}")?.as_str(), text);
     }
+    Ok(())
+}
+
+#[test]
+fn what_differs_in_one_number_is_unequal(rt: HostRuntime) -> Result<(), Fail> {
+    let frame = Frame {
+        transaction: 1,
+        unit: 1,
+        pdu: Pdu::from_slice(&[0x83, 2]),
+    };
+    let other = Frame {
+        transaction: 1,
+        unit: 1,
+        pdu: Pdu::from_slice(&[0x83, 3]),
+    };
+    assert_eq!(rt; frame.clone()?, frame);
+    assert_ne!(rt; frame, other);
+    assert_ne!(rt; FrameFault::BadLength(255), FrameFault::BadLength(1));
+    let got = Got::Bad(FrameFault::BadLength(1));
+    assert_ne!(rt; Got::Bad(FrameFault::BadProtocol(1)), got);
+    assert_ne!(rt;
+        Fed { used: 0, got },
+        Frames::new().feed(&[0, 1, 0, 0, 0, 1])
+    );
     Ok(())
 }

@@ -1,12 +1,14 @@
 //! From bytes to requests and replies.
-ghost use Rattle.std.specs.Prelude.{◌≡◌, ℕ, List, ◌∷◌, ◌++◌, ◌+◌, ◌*◌, ◌%◌, ◌<◌, ◌≤◌, length, IfSome, MatchOption, Some};
+ghost use Rattle.std.specs.Prelude.{◌≡◌, ℕ, List, ◌∷◌, ◌++◌, ◌+◌, ◌*◌, ◌%◌, ◌<◌, ◌≤◌, length};
+ghost use Rattle.std.specs.Prelude.{IfSome, MatchOption, Some};
 ghost use Rattle.std.specs.List.{AllByRecursion};
-ghost use Rattle.modbus_pdu.specs.Grammar.{word, words, IsWord, IsRequest, IsReply};
+ghost use Rattle.modbus_pdu.specs.Grammar.{word, words, IsWord, IsRequest, IsReply, read_limit};
 ghost use Rattle.modbus_pdu.specs.declared.pdu.Request.{Request};
 ghost use Rattle.modbus_pdu.specs.declared.pdu.Reply.{Reply};
 
 use crate::pdu::{
-    EXCEPTION_BIT, MAX_READ, MAX_WRITE, READ_REGISTERS, Regs, Reply, Request, WRITE_REGISTERS,
+    EXCEPTION_BIT, MAX_READ, MAX_REGISTERS, MAX_WRITE, READ_REGISTERS, Regs, Reply, Request,
+    WRITE_REGISTERS,
 };
 
 const READ_EXCEPTION: u8 = READ_REGISTERS + EXCEPTION_BIT;
@@ -85,14 +87,15 @@ fn header_of(bytes: &[u8]) -> Option<(u8, u16, u16, &[u8])>
 
 // The registers behind their byte count, at most as many as one read may ask for.
 fn counted_registers(bytes: &[u8]) -> Option<Regs>
-    ensures found { IfSome result (λ values.
-        AllByRecursion IsWord values × (length values ≤ 125) × (bytes.now ≡ (2 * length values) ∷ words values)) }
-    ensures only { (values : List ℕ) → length values ≤ 125 → bytes.now ≡ (2 * length values) ∷ words values
+    ensures found { IfSome result (λ values. AllByRecursion IsWord values × (length values ≤ read_limit)
+        × (bytes.now ≡ (2 * length values) ∷ words values)) }
+    ensures only { (values : List ℕ)
+        → length values ≤ read_limit → bytes.now ≡ (2 * length values) ∷ words values
         → result ≡ Some values }
 {
     let (byte_count, registers) = bytes.split_first()?;
     let len = registers.len();
-    if len != usize::from(*byte_count) || len % 2 != 0 || len > 2 * usize::from(MAX_READ) {
+    if len != usize::from(*byte_count) || len % 2 != 0 || len > 2 * MAX_REGISTERS {
         return None;
     }
     Some(registers_of(registers))
@@ -101,7 +104,7 @@ fn counted_registers(bytes: &[u8]) -> Option<Regs>
 // The registers that lie in these bytes, two bytes each.
 fn registers_of(bytes: &[u8]) -> Regs
     requires even { length bytes.now % 2 ≡ 0 }
-    requires fits { length bytes.now ≤ 250 }
+    requires fits { length bytes.now ≤ 2 * read_limit }
     ensures spelled { words result ≡ bytes.now }
     ensures fields { AllByRecursion IsWord result }
     ensures count { 2 * length result ≡ length bytes.now }

@@ -1,7 +1,8 @@
 //! From requests and replies to bytes.
 ghost use Rattle.std.specs.Prelude.{◌≡◌, ◌+◌, ◌*◌, ◌≤◌, ◌<◌, ◌++◌, ◌∷◌, length};
 ghost use Rattle.std.specs.List.{AllByRecursion};
-ghost use Rattle.modbus_pdu.specs.Grammar.{IsWord, word, words, HasRequestForm, HasReplyForm, IsRequest, IsReply};
+ghost use Rattle.modbus_pdu.specs.Grammar.{IsWord, word, words, pdu_limit};
+ghost use Rattle.modbus_pdu.specs.Grammar.{HasRequestForm, HasReplyForm, IsRequest, IsReply};
 
 use crate::pdu::{EXCEPTION_BIT, Pdu, READ_REGISTERS, Regs, Reply, Request, WRITE_REGISTERS};
 
@@ -55,7 +56,7 @@ pub fn encode_reply(reply: &Reply) -> Pdu
 
 // Appends a field of two bytes, the high one first.
 fn push_word(pdu: &mut Pdu, field: u16)
-    requires { length pdu.old + 2 ≤ 253 }
+    requires { length pdu.old + 2 ≤ pdu_limit }
     ensures { pdu.new ≡ pdu.old ++ word field }
 {
     pdu.extend_from_slice(&field.to_be_bytes());
@@ -63,7 +64,7 @@ fn push_word(pdu: &mut Pdu, field: u16)
 
 // Appends the byte count and the registers.
 fn push_registers(pdu: &mut Pdu, values: &Regs)
-    requires { length pdu.old + (2 * length values.now + 1) ≤ 253 }
+    requires { length pdu.old + (2 * length values.now + 1) ≤ pdu_limit }
     ensures spelled { pdu.new ≡ pdu.old ++ (2 * length values.now) ∷ words values.now }
     ensures fields { AllByRecursion IsWord values.now }
 {

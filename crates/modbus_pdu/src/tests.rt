@@ -1,6 +1,4 @@
 use super::*;
-use arrayvec::ArrayVec;
-use std::test::Fail;
 
 // A write of six registers from 40214 on.
 const WRITE: [u8; 18] = [
@@ -27,6 +25,10 @@ fn a_read_asks_for_1_to_125_registers(rt: HostRuntime) {
         );
     }
     assert_eq!(rt; decode_request(&[0x03, 0, 0, 0, 0x7D, 0]), None);
+    assert_eq!(rt;
+        limits_of_the_standard(&Pdu::new(), &Regs::new()),
+        (253, 125)
+    );
 }
 
 #[test]
@@ -39,6 +41,11 @@ fn a_write_is_read_whole_or_not_at_all(rt: HostRuntime) {
     for end in 0..WRITE.len() {
         assert_eq!(rt; decode_request(&WRITE[..end]), None, "cut at {end}");
     }
+    let other = Request::WriteRegs {
+        start: 40214,
+        values: Regs::from_slice(&[1, 1000, 100, 1, 0, 61]),
+    };
+    assert_ne!(rt; write, other);
     assert_eq!(rt; decode_request(&WRITE), Some(write));
 }
 
@@ -72,15 +79,9 @@ fn replies_and_their_bytes(rt: HostRuntime) {
         assert_eq!(rt; decode_reply(&bytes), Some(exception), "at {code}");
     }
     assert_eq!(rt; decode_reply(&[0x84, 1]), None);
-}
-
-#[test]
-fn a_list_is_made_from_a_vector_and_gives_it_back(rt: HostRuntime) -> Result<(), Fail> {
-    let mut list = Regs::from(ArrayVec::new());
-    assert!(rt; list.is_empty());
-    list.push(3);
-    list.extend_from_slice(&[5, 8]);
-    assert_eq!(rt; list.clone()?, list);
-    assert_eq!(rt; list.into_inner().as_slice(), [3, 5, 8].as_slice());
-    Ok(())
+    let refused = Reply::Exception {
+        function: 16,
+        code: 2,
+    };
+    assert_ne!(rt; decode_reply(&[0x90, 3]), Some(refused));
 }

@@ -1,6 +1,6 @@
 use Rattle.std.proofs.Common.{◌<◌, ◌∙◌, length, sym, ap, arith}
 use Rattle.mbap_frames.proofs.Gathered.{before_unfinished}
-use Rattle.mbap_frames.proofs.Call.{fed_more, fed_one}
+use Rattle.mbap_frames.proofs.OneFeeding.{fed_more, fed_one}
 use Rattle.mbap_frames.proofs.frames.take_piece.Goals as goal
 
 pub returns-in-Ok-clause-step : goal.returns-in-Ok-clause-step

@@ -1,4 +1,4 @@
-use Rattle.mbap_frames.proofs.Calls.{calls_are_stream, calls_are_first, any_cut}
+use Rattle.mbap_frames.proofs.Feedings.{calls_are_stream, calls_are_first, any_cut}
 use Rattle.mbap_frames.proofs.laws.calls_read_the_stream.Goals as goal
 
 pub returns-clause-frames : goal.returns-clause-frames

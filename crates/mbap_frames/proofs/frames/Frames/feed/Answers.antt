@@ -1,6 +1,6 @@
 use Rattle.std.proofs.Common.{◌++◌}
 use Rattle.mbap_frames.specs.declared.frames.Got.TheVariants.{More, One, Bad}
-use Rattle.mbap_frames.proofs.Call.{first_of_call, exactly, stays_bad}
+use Rattle.mbap_frames.proofs.OneFeeding.{first_of_call, exactly, stays_bad}
 use Rattle.mbap_frames.proofs.frames.Frames.feed.Goals as goal
 
 pub returns-clause-more : goal.returns-clause-more

@@ -1,4 +1,11 @@
-//! A short list that lies in the value itself.
+//! A short list that lies in the value itself, and takes no memory.
+//!
+//! The bytes of a protocol data unit and the registers of one read or write (`Pdu` and `Regs` of
+//! `modbus_pdu`) and the bytes of a frame (`FrameBytes` of `mbap_frames`) are such lists. Contracts see a
+//! `FixedList` as the list of its elements. It is `Clone` and not `Copy`, as the vector of fixed capacity
+//! that it is kept in; a clone takes no memory where those of its elements take none.
+#![tactic(auto)]
+
 ghost use Rattle.std.specs.Prelude.{◌≡◌, ℕ, slice_index_or, ◌+◌, ◌≤◌, ◌<◌, ◌==◌, ◌++◌, ◌∷◌, [], length};
 ghost use Rattle.std.specs.List.{AllZip};
 
@@ -82,6 +89,13 @@ impl<T, const CAP: usize> FixedList<T, CAP> {
         self.cells.len()
     }
 
+    /// How many elements fit.
+    pub fn capacity(&self) -> usize
+        ensures { result ≡ CAP }
+    {
+        self.cells.capacity()
+    }
+
     /// Whether there is no element.
     pub fn is_empty(&self) -> bool
         ensures { result ≡ (length self.now == 0) }
@@ -108,7 +122,8 @@ impl<T, const CAP: usize> From<ArrayVec<T, CAP>> for FixedList<T, CAP> {
 impl<T: Default + Clone, const CAP: usize> Clone for FixedList<T, CAP> {
     ghost is_clone = { λ list copy. AllZip T.is_clone list copy };
 
-    ghost is_infallible = { λ list. (i : ℕ) (d : T) → i < length list → T.is_infallible (slice_index_or list i d) };
+    ghost is_infallible = { λ list.
+        (i : ℕ) (d : T) → i < length list → T.is_infallible (slice_index_or list i d) };
 
     fn clone(&self) -> Result<Self, AllocError> {
         Ok(FixedList {
@@ -116,3 +131,6 @@ impl<T: Default + Clone, const CAP: usize> Clone for FixedList<T, CAP> {
         })
     }
 }
+
+#[cfg(test)]
+mod tests;

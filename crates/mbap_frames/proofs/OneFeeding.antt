@@ -78,13 +78,18 @@ pub record StaysBad (before : List ℕ) (fault : FrameFault) (fed : Fed) (after 
   pub got : fed.got ≡ Bad fault
   pub kept : after ≡ before
 
-pub stays_bad : (before piece : List ℕ) (fault : FrameFault) (fed : Fed) (after : List ℕ) → IsKept before → IsFed before piece fed after → HasFault before fault → StaysBad before fault fed after
-stays_bad before piece fault fed after kept call stands =
+-- also where no more is known of what was kept than that it shows the fault and no more
+pub stays_bad_at : (before piece : List ℕ) (fault : FrameFault) (fed : Fed) (after : List ℕ) → length before ≡ fault_end fault → IsFed before piece fed after → HasFault before fault
+    → StaysBad before fault fed after
+stays_bad_at before piece fault fed after then call stands =
     let got : fed.got ≡ Bad fault = one_first (before ++ piece) fed.got (Bad fault) (first_of_call before piece fed after call) (HasFault-append before piece fault stands) in
     let stream : after ++ drop fed.used piece ≡ before ++ piece = sym (fault_left fault fed.got after (drop fed.used piece) got) ∙ call.stream in
     let now : length after ≡ fault_end fault = fault_len fault fed.got after (drop fed.used piece) got call.leaves in
-    let then : length before ≡ fault_end fault = fault_at before fault (gathered_of_kept before kept) stands in
     let parts = same_front after before (drop fed.used piece) piece (now ∙ sym then) stream in
     let left : length (drop fed.used piece) ≡ length piece = ap length parts.1 in
     let within = call.within in
     record { used = omega (arith, length-drop fed.used piece); got = got; kept = parts.0 }
+
+pub stays_bad : (before piece : List ℕ) (fault : FrameFault) (fed : Fed) (after : List ℕ) → IsKept before → IsFed before piece fed after → HasFault before fault → StaysBad before fault fed after
+stays_bad before piece fault fed after kept call stands =
+    stays_bad_at before piece fault fed after (fault_at before fault (gathered_of_kept before kept) stands) call stands
