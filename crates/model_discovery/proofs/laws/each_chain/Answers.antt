@@ -1,10 +1,10 @@
-use Rattle.model_discovery.proofs.Facts.{few_models, first_is_long, none_missing, within_map}
-use Rattle.model_discovery.proofs.whole_walk.each_chain.Goals as goal
+use Rattle.model_discovery.proofs.Facts.{few_models, first_is_long, none_absent, within_map}
+use Rattle.model_discovery.proofs.laws.each_chain.Goals as goal
 
 pub returns : goal.returns
 returns c = record {
   few = λ map models chain. few_models models chain.reached.sound;
-  within = λ map models chain. within_map models chain.reached.sound;
+  within_map = λ map models chain. within_map models chain.reached.sound;
   long_enough = λ map models id chain. first_is_long models chain.reached.sound id;
-  present = λ map models chain. none_missing models chain.complete;
+  present = λ map models chain. none_absent models chain.complete;
 }
