@@ -3,12 +3,12 @@ use Rattle.std.specs.Prelude.{◌≡◌, ℕ, ◌/◌, ◌%◌, List, [], ◌∷
 use Rattle.scale_points.specs.Numbers.{double_word}
 use Rattle.der_models.specs.declared.limit.LimitView.{LimitView}
 
--- how many of them are written, and how many a read-back reads
-abbrev pub write_size : ℕ
-write_size = 6
+-- how many of them a write has, and how many a read-back
+abbrev pub limit_block_length : ℕ
+limit_block_length = 6
 
-abbrev pub read_size : ℕ
-read_size = 8
+abbrev pub limit_view_length : ℕ
+limit_view_length = 8
 
 -- the registers that set a limit: WMaxLimPctEna 1, WMaxLimPct, WMaxLimPctRvrt, WMaxLimPctEnaRvrt 1, and
 -- WMaxLimPctRvrtTms in seconds, the high register first

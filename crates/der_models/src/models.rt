@@ -1,6 +1,6 @@
 //! Points of the models 701 to 704 that are read alone.
 ghost use Rattle.std.specs.Prelude.{◌≡◌, ◌≤◌, ◌↔◌, length, slice_index, IsNone, SomeIff};
-ghost use Rattle.scale_points.specs.Numbers.{unsigned_absent, enum16_at};
+ghost use Rattle.scale_points.specs.Numbers.{unsigned_absence, enum16_at};
 ghost use Rattle.der_models.specs.Layout.{ac_measurement_id, capacity_id, enter_service_id, ac_controls_id, least_block, m703_es};
 ghost use Rattle.der_models.specs.Models.{measure_of, raw_wmax, raw_wsf, raw_psf};
 
@@ -40,7 +40,7 @@ pub fn capacity(regs: &[u16]) -> Option<(u16, i16)>
 pub fn enter_service(regs: &[u16]) -> Option<u16>
     ensures point { result ≡ enum16_at regs.now m703_es }
     ensures whole { least_block enter_service_id ≤ length regs.now
-        → (IsNone result ↔ (slice_index regs.now m703_es ≡ unsigned_absent)) }
+        → (IsNone result ↔ (slice_index regs.now m703_es ≡ unsigned_absence)) }
 {
     enum16(regs, M703_ES)
 }

@@ -47,7 +47,7 @@ ReachesTo-more : (map : Map) (models : List Found) (model : Found) → ReachesTo
     → ReachesTo map (models ++ model ∷ []) (next_header model)
 ReachesTo-more map models model reached header fine = record {
   base = reached.base;
-  marked = reached.marked;
+  mark = reached.mark;
   stand = Stand-more map (first_header reached.base) models model.start model reached.stand refl header;
   sound = sound_more models model reached.sound fine;
 }
@@ -60,14 +60,14 @@ marked_on : (map : Map) (base : ℕ) (left : List ℕ) (marked : Bool) → is_ma
     → IsAt map (cond marked (Reading (first_header base)) (place_at_bases left)) []
 marked_on map base left true e h = record {
   base = base;
-  marked = h ∙ ap (λ (b : Bool). cond b (Some base) (base_of map left)) e;
+  mark = h ∙ ap (λ (b : Bool). cond b (Some base) (base_of map left)) e;
   stand = refl;
   sound = sound_nil;
 }
 marked_on map base left false e h = after_base_on map left (h ∙ ap (λ (b : Bool). cond b (Some base) (base_of map left)) e)
 
 closed_on : (map : Map) (models : List Found) (next : ℕ) (lacks : Option ℕ) → absent_model models ≡ lacks → ReachesTo map models next → EndsAt map next → IsAt map (place_at_end lacks) models
-closed_on map models next None e reached ends = record { next = next; reached = reached; ended = ends; complete = e }
+closed_on map models next None e reached ends = record { next = next; reach = reached; end = ends; complete = e }
 closed_on map models next (Some id) e reached ends = at_end next id reached ends e refl
 
 taken_on : (map : Map) (models : List Found) (model : Found) (found : Option WalkFault) → model_fault models model ≡ found → ReachesTo map models model.start → HasHeader map model

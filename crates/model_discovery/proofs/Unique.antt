@@ -97,16 +97,16 @@ fault_comes map models error (at_exception next code reached e is) =
     stopped models next reached (ap (verdict models next) e ∙ ap (λ (f : WalkFault). Some (failed f)) (sym is))
 
 comes : (map : Map) (outcome : Outcome) → IsOutcome map outcome → Comes map outcome
-comes map (Ok models) chain = stopped models chain.next chain.reached (verdict_at_end map models chain.next None chain.ended chain.complete)
+comes map (Ok models) chain = stopped models chain.next chain.reach (verdict_at_end map models chain.next None chain.end chain.complete)
 comes map (Err error) failed = fault_comes map failed.0 error failed.1
 
 same_end : (map : Map) (one other : Outcome) → Comes map one → Comes map other → one ≡ other
 same_end map one other (unmarked none e) (unmarked none' e') = e ∙ sym e'
-same_end map one other (unmarked none e) (stopped models next reached v) = let marked = reached.marked in absurd cc
-same_end map one other (stopped models next reached v) (unmarked none e) = let marked = reached.marked in absurd cc
+same_end map one other (unmarked none e) (stopped models next reached v) = let marked = reached.mark in absurd cc
+same_end map one other (stopped models next reached v) (unmarked none e) = let marked = reached.mark in absurd cc
 same_end map one other (stopped models next reached v) (stopped models' next' reached' v') =
-    let first = reached.marked in
-    let second = reached'.marked in
+    let first = reached.mark in
+    let second = reached'.mark in
     let base : reached'.base ≡ reached.base = cc in
     let stand : Stand map (first_header reached.base) models' next' = subst (λ (b : ℕ). Stand map (first_header b) models' next') base reached'.stand in
     same_stop map (first_header reached.base) [] models models' next next' one other reached.stand stand

@@ -74,7 +74,7 @@ AreSound models = (before after : List Found) (model : Found) → models ≡ bef
 -- Sound models stand one behind the other behind the mark, and the next header stands at `next`.
 pub record ReachesTo (map : Map) (models : List Found) (next : ℕ) : Type 0 where
   pub base : ℕ
-  pub marked : base_of map bases ≡ Some base
+  pub mark : base_of map bases ≡ Some base
   pub stand : Stand map (first_header base) models next
   pub sound : AreSound models
 
@@ -91,8 +91,8 @@ absent_model models = if is_none (first_of capacity_id models) then Some capacit
 -- The chain of a map: the models between the mark and the end mark.
 pub record IsChain (map : Map) (models : List Found) : Type 0 where
   pub next : ℕ
-  pub reached : ReachesTo map models next
-  pub ended : EndsAt map next
+  pub reach : ReachesTo map models next
+  pub end : EndsAt map next
   pub complete : absent_model models ≡ None
 
 -- What keeps a map from having a chain, and the models that stand before it.

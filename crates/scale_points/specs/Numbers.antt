@@ -6,14 +6,14 @@ use Rattle.std.specs.Option.{option_map, option_and_then}
 use Rattle.std.specs.Int.{w16, cast_signed}
 
 -- what each kind holds where it is not implemented: uint16 and enum16; int16 and sunssf; uint32
-abbrev pub unsigned_absent : ℕ
-unsigned_absent = 0xFFFF
+abbrev pub unsigned_absence : ℕ
+unsigned_absence = 0xFFFF
 
-abbrev pub signed_absent : ℕ
-signed_absent = 0x8000
+abbrev pub signed_absence : ℕ
+signed_absence = 0x8000
 
-abbrev pub double_absent : ℕ
-double_absent = 0xFFFFFFFF
+abbrev pub double_absence : ℕ
+double_absence = 0xFFFFFFFF
 
 -- the greatest power of ten that a scale factor may have, up and down
 abbrev pub power_max : ℕ
@@ -43,18 +43,18 @@ number_unless absent (Some number) = if number == absent then None else Some num
 
 -- uint16 and enum16
 abbrev pub uint16_at : List ℕ → ℕ → Option ℕ
-uint16_at regs at = number_unless unsigned_absent (word_at regs at)
+uint16_at regs at = number_unless unsigned_absence (word_at regs at)
 
 abbrev pub enum16_at : List ℕ → ℕ → Option ℕ
-enum16_at regs at = number_unless unsigned_absent (word_at regs at)
+enum16_at regs at = number_unless unsigned_absence (word_at regs at)
 
 -- int16, in two's complement
 abbrev pub int16_at : List ℕ → ℕ → Option ℤ
-int16_at regs at = option_map (cast_signed w16) (number_unless signed_absent (word_at regs at))
+int16_at regs at = option_map (cast_signed w16) (number_unless signed_absence (word_at regs at))
 
 -- uint32
 abbrev pub uint32_at : List ℕ → ℕ → Option ℕ
-uint32_at regs at = number_unless double_absent (double_word_at regs at)
+uint32_at regs at = number_unless double_absence (double_word_at regs at)
 
 -- is this a power of ten that a scale factor may have: from -10 to 10
 abbrev pub is_power : ℤ → Bool
