@@ -1,25 +1,29 @@
 -- The limit of model 704 (SunSpec DER AC Controls): its registers from WMaxLimPctEna on.
-use Rattle.std.specs.Prelude.{◌≡◌, ℕ, ◌+◌, ◌*◌, ◌/◌, ◌%◌, List, [], ◌∷◌, slice_index}
+use Rattle.std.specs.Prelude.{◌≡◌, ℕ, ◌/◌, ◌%◌, List, [], ◌∷◌, slice_index}
+use Rattle.scale_points.specs.Numbers.{double_word}
 use Rattle.der_models.specs.declared.limit.LimitView.{LimitView}
 
--- the six registers that set a limit: WMaxLimPctEna 1, WMaxLimPct, WMaxLimPctRvrt, WMaxLimPctEnaRvrt 1,
--- and WMaxLimPctRvrtTms in seconds, the high register first
+-- how many of them a write has, and how many a read-back
+abbrev pub limit_block_length : ℕ
+limit_block_length = 6
+
+abbrev pub limit_view_length : ℕ
+limit_view_length = 8
+
+-- the registers that set a limit: WMaxLimPctEna 1, WMaxLimPct, WMaxLimPctRvrt, WMaxLimPctEnaRvrt 1, and
+-- WMaxLimPctRvrtTms in seconds, the high register first
 abbrev pub limit_registers : (raw floor timer : ℕ) → List ℕ
 limit_registers raw floor timer = 1 ∷ raw ∷ floor ∷ 1 ∷ (timer / 65536) ∷ (timer % 65536) ∷ []
 
--- the number of the two registers from a place on, the high one first
-abbrev pub double_word : List ℕ → ℕ → ℕ
-double_word regs at = 65536 * slice_index regs at + slice_index regs (at + 1)
-
--- what eight registers show: the same points, and WMaxLimPctRvrtRem behind them
-abbrev pub limit_shown : List ℕ → LimitView
-limit_shown regs = record {
+-- what the registers of a read-back show: the same points, and WMaxLimPctRvrtRem behind them
+abbrev pub view_of : List ℕ → LimitView
+view_of regs = record {
   ena = slice_index regs 0;
   pct = slice_index regs 1;
   pct_rvrt = slice_index regs 2;
   ena_rvrt = slice_index regs 3;
-  tms = double_word regs 4;
-  rem = double_word regs 6;
+  tms = double_word (slice_index regs 4) (slice_index regs 5);
+  rem = double_word (slice_index regs 6) (slice_index regs 7);
 }
 
 -- the view shows that this limit is set, with this limit to revert to and this timer

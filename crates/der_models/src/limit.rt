@@ -1,6 +1,8 @@
 //! The limit of model 704 as registers.
-ghost use Rattle.std.specs.Prelude.{◌≡◌, ℕ, ◌+◌, ◌*◌, take, length, SomeIff, IfSome};
-ghost use Rattle.der_models.specs.Limit.{limit_registers, limit_shown, ShowsLimit};
+ghost use Rattle.std.specs.Prelude.{◌≡◌, ℕ, take, length, SomeIff, IfSome};
+ghost use Rattle.der_models.specs.Limit.{limit_block_length, limit_view_length, limit_registers, view_of, ShowsLimit};
+
+use scale_points::double_word;
 
 /// What enables a limit, and its reversion.
 const ENABLED: u16 = 1;
@@ -35,12 +37,13 @@ pub fn limit_block(raw: u16, floor: u16, timer: u32) -> [u16; 6]
 /// The limit that eight registers of model 704 from WMaxLimPctEna on show. None where they aren't
 /// eight.
 pub fn limit_view(regs: &[u16]) -> Option<LimitView>
-    ensures view { SomeIff result (length regs.now ≡ 8) (limit_shown regs.now) }
+    ensures view { SomeIff result (length regs.now ≡ limit_view_length) (view_of regs.now) }
 
     // Block and view are inverse on the six written registers.
-    ensures of_block { (raw floor timer : ℕ) → take 6 regs.now ≡ limit_registers raw floor timer → IfSome result (ShowsLimit raw floor timer) }
+    ensures of_block { (raw floor timer : ℕ) → take limit_block_length regs.now ≡ limit_registers raw floor timer
+        → IfSome result (ShowsLimit raw floor timer) }
     ensures to_block { IfSome result (λ view. view.ena ≡ 1 → view.ena_rvrt ≡ 1
-        → take 6 regs.now ≡ limit_registers view.pct view.pct_rvrt view.tms) }
+        → take limit_block_length regs.now ≡ limit_registers view.pct view.pct_rvrt view.tms) }
 {
     match regs {
         &[
@@ -62,11 +65,4 @@ pub fn limit_view(regs: &[u16]) -> Option<LimitView>
         }),
         _ => None,
     }
-}
-
-/// The number of two registers.
-fn double_word(high: u16, low: u16) -> u32
-    ensures { result ≡ 65536 * high + low }
-{
-    u32::from(high) * 0x1_0000 + u32::from(low)
 }

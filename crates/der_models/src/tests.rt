@@ -16,7 +16,17 @@ fn a_block_and_its_view(rt: HostRuntime) {
         rem: 58,
     };
     assert_eq!(rt; limit_view(&regs), Some(view));
+    assert_ne!(rt; limit_view(&[1, 1000, 100, 1, 0, 60, 0, 57]), Some(view));
     assert_eq!(rt; limit_view(&regs[..7]), None);
+}
+
+#[test]
+fn least_lengths(rt: HostRuntime) {
+    let lengths = [(701, 115), (702, 44), (703, 17), (704, 53), (1, 0)];
+    for (id, length) in lengths {
+        assert_eq!(rt; least_length(id), length, "length of {id}");
+        assert_eq!(rt; least_block(id), length + 2, "block of {id}");
+    }
 }
 
 #[test]
@@ -32,6 +42,11 @@ fn views_of_the_other_models(rt: HostRuntime) {
         scale: Some(-1),
     };
     assert_eq!(rt; measure(&regs), Some(measured));
+    let unscaled = Measure {
+        scale: None,
+        ..measured
+    };
+    assert_ne!(rt; measure(&regs), Some(unscaled));
     assert_eq!(rt; measure(&regs[..116]), None);
     assert_eq!(rt; enter_service(&regs), Some(1));
 

@@ -1,12 +1,14 @@
--- A walk over a map that is told the map's answer is a walk over that map again.
-use Rattle.std.proofs.Common.{◌≡◌, ℕ, ◌+◌, Bool, true, false, cond, eqb, List, [], ◌∷◌, ◌++◌, Option, Some, None, Err, refl, sym, ◌∙◌, ap, subst, ◌⊎◌, inl, inr}
+-- A walk over a map is a walk over that map again after the map's answer.
+use Rattle.std.proofs.Common.{◌≡◌, ℕ, Bool, true, false, cond, eqb, List, [], ◌∷◌, ◌++◌, Option, Some, None, Result, Ok, Err, refl, sym, ◌∙◌, ap, subst, ◌⊎◌, inl, inr}
+use Rattle.std.specs.Prelude.{IfErr}
+use Rattle.std.specs.Result.{result_err}
 use Rattle.std.proofs.lemmas.Bool.{eqb-true, eqb-false}
 use Rattle.model_discovery.specs.declared.found.Found.{Found}
 use Rattle.model_discovery.specs.declared.fault.WalkFault.{WalkFault}
 use Rattle.model_discovery.specs.declared.walk.Next.TheVariants.{Read, Done}
 use Rattle.model_discovery.specs.Map.{Map, Answer, Registers, Exception}
-use Rattle.model_discovery.specs.Chain.{bases, is_mark, first_marked, HasHeader, next_header, Stand, model_fault, AreSound, ReachesTo, EndsAt, missing, IsChain, IsFaultAfter, IsOutcome, at_mark, at_model, at_end, at_exception}
-use Rattle.model_discovery.specs.Walking.{Place, Seeking, Reading, Finished, Failed, Walking, IsAt, IsOn, Answers, seek, close, take_in, told, fault_of, next_read}
+use Rattle.model_discovery.specs.Chain.{end_mark, bases, is_mark, base_of, first_header, HasHeader, next_header, Stand, model_fault, AreSound, ReachesTo, EndsAt, absent_model, IsChain, IsFaultAfter, IsOutcome, at_mark, at_model, at_end, at_exception}
+use Rattle.model_discovery.specs.WalkState.{Place, Seeking, Reading, Finished, Failed, WalkState, IsAt, IsOn, Answers, place_at_bases, place_at_end, state_after_model, state_after, fault_of, next_read}
 
 nil_no_middle : (before after : List Found) (model : Found) → [] ≡ before ++ model ∷ after → ⊥
 nil_no_middle [] after model e = cc
@@ -26,11 +28,11 @@ place_in_longer (a ∷ xs) (b ∷ before) after x y e =
       | inr inside ↦ let here : xs ≡ before ++ y ∷ inside.0 = inside.1 in inr (inside.0, cc)
     ]
 
-pub AreSound-nil : AreSound []
-AreSound-nil before after model e = absurd (nil_no_middle before after model e)
+pub sound_nil : AreSound []
+sound_nil before after model e = absurd (nil_no_middle before after model e)
 
-pub AreSound-more : (models : List Found) (model : Found) → AreSound models → model_fault models model ≡ None → AreSound (models ++ model ∷ [])
-AreSound-more models model sound fine before after other e =
+pub sound_more : (models : List Found) (model : Found) → AreSound models → model_fault models model ≡ None → AreSound (models ++ model ∷ [])
+sound_more models model sound fine before after other e =
     elim (place_in_longer models before after model other e) [
       | inl last ↦ rw (last.0, last.1) fine
       | inr inside ↦ sound before inside.0 other inside.1
@@ -45,49 +47,49 @@ ReachesTo-more : (map : Map) (models : List Found) (model : Found) → ReachesTo
     → ReachesTo map (models ++ model ∷ []) (next_header model)
 ReachesTo-more map models model reached header fine = record {
   base = reached.base;
-  marked = reached.marked;
-  stand = Stand-more map (reached.base + 2) models model.start model reached.stand refl header;
-  sound = AreSound-more models model reached.sound fine;
+  mark = reached.mark;
+  stand = Stand-more map (first_header reached.base) models model.start model reached.stand refl header;
+  sound = sound_more models model reached.sound fine;
 }
 
-seek_on : (map : Map) (left : List ℕ) → first_marked map bases ≡ first_marked map left → IsAt map (seek left) []
-seek_on map [] h = at_mark refl h refl
-seek_on map (base ∷ left) h = (refl, h)
+after_base_on : (map : Map) (left : List ℕ) → base_of map bases ≡ base_of map left → IsAt map (place_at_bases left) []
+after_base_on map [] h = at_mark refl h refl
+after_base_on map (base ∷ left) h = (refl, h)
 
-marked_on : (map : Map) (base : ℕ) (left : List ℕ) (marked : Bool) → is_mark (map base) ≡ marked → first_marked map bases ≡ first_marked map (base ∷ left)
-    → IsAt map (cond marked (Reading (base + 2)) (seek left)) []
+marked_on : (map : Map) (base : ℕ) (left : List ℕ) (marked : Bool) → is_mark (map base) ≡ marked → base_of map bases ≡ base_of map (base ∷ left)
+    → IsAt map (cond marked (Reading (first_header base)) (place_at_bases left)) []
 marked_on map base left true e h = record {
   base = base;
-  marked = h ∙ ap (λ (b : Bool). cond b (Some base) (first_marked map left)) e;
+  mark = h ∙ ap (λ (b : Bool). cond b (Some base) (base_of map left)) e;
   stand = refl;
-  sound = AreSound-nil;
+  sound = sound_nil;
 }
-marked_on map base left false e h = seek_on map left (h ∙ ap (λ (b : Bool). cond b (Some base) (first_marked map left)) e)
+marked_on map base left false e h = after_base_on map left (h ∙ ap (λ (b : Bool). cond b (Some base) (base_of map left)) e)
 
-closed_on : (map : Map) (models : List Found) (next : ℕ) (lacks : Option ℕ) → missing models ≡ lacks → ReachesTo map models next → EndsAt map next → IsAt map (close lacks) models
-closed_on map models next None e reached ends = record { next = next; reached = reached; ended = ends; complete = e }
+closed_on : (map : Map) (models : List Found) (next : ℕ) (lacks : Option ℕ) → absent_model models ≡ lacks → ReachesTo map models next → EndsAt map next → IsAt map (place_at_end lacks) models
+closed_on map models next None e reached ends = record { next = next; reach = reached; end = ends; complete = e }
 closed_on map models next (Some id) e reached ends = at_end next id reached ends e refl
 
 taken_on : (map : Map) (models : List Found) (model : Found) (found : Option WalkFault) → model_fault models model ≡ found → ReachesTo map models model.start → HasHeader map model
-    → IsOn map (take_in models model found)
+    → IsOn map (state_after_model models model found)
 taken_on map models model None e reached header = ReachesTo-more map models model reached header e
 taken_on map models model (Some error) e reached header = at_model model reached header e
 
-header_on : (map : Map) (models : List Found) (model : Found) (ends : Bool) → eqb model.id 0xFFFF ≡ ends → ReachesTo map models model.start → map model.start ≡ Registers model.id model.length
-    → IsOn map (cond ends (record { place = close (missing models); models = models }) (take_in models model (model_fault models model)))
+header_on : (map : Map) (models : List Found) (model : Found) (ends : Bool) → eqb model.id end_mark ≡ ends → ReachesTo map models model.start → map model.start ≡ Registers model.id model.length
+    → IsOn map (cond ends (record { place = place_at_end (absent_model models); models = models }) (state_after_model models model (model_fault models model)))
 header_on map models model true e reached answer =
-    let id : model.id ≡ 0xFFFF = eqb-true _ _ e in
-    closed_on map models model.start (missing models) refl reached (model.length, answer ∙ ap (λ (n : ℕ). Registers n model.length) id)
+    let id : model.id ≡ end_mark = eqb-true _ _ e in
+    closed_on map models model.start (absent_model models) refl reached (model.length, answer ∙ ap (λ (n : ℕ). Registers n model.length) id)
 header_on map models model false e reached answer = taken_on map models model (model_fault models model) refl reached (answer, eqb-false _ _ e)
 
-pub told_on : (map : Map) (place : Place) (models : List Found) (answer : Answer) → IsAt map place models → Answers map place answer → IsOn map (told place models answer)
-told_on map (Seeking base left) models answer h a =
+pub after_on : (map : Map) (place : Place) (models : List Found) (answer : Answer) → IsAt map place models → Answers map place answer → IsOn map (state_after place models answer)
+after_on map (Seeking base left) models answer h a =
     let marked = marked_on map base left (is_mark answer) (ap is_mark a) h.1 in
-    subst (λ (found : List Found). IsAt map (cond (is_mark answer) (Reading (base + 2)) (seek left)) found) (sym h.0) marked
-told_on map (Reading next) models (Registers first second) h a = header_on map models (record { id = first; start = next; length = second }) (eqb first 0xFFFF) refl h a
-told_on map (Reading next) models (Exception code) h a = at_exception next code h a refl
-told_on map Finished models answer h a = h
-told_on map (Failed error) models answer h a = h
+    subst (λ (found : List Found). IsAt map (cond (is_mark answer) (Reading (first_header base)) (place_at_bases left)) found) (sym h.0) marked
+after_on map (Reading next) models (Registers first second) h a = header_on map models (record { id = first; start = next; length = second }) (eqb first end_mark) refl h a
+after_on map (Reading next) models (Exception code) h a = at_exception next code h a refl
+after_on map Finished models answer h a = h
+after_on map (Failed error) models answer h a = h
 
 failed_at : (map : Map) (place : Place) (models : List Found) (error : WalkFault) → IsAt map place models → Some error ≡ fault_of place → IsFaultAfter map models error
 failed_at map (Seeking base left) models error h e = absurd cc
@@ -96,8 +98,14 @@ failed_at map Finished models error h e = absurd cc
 failed_at map (Failed error') models error h e = let same : error' ≡ error = cc in subst (λ (f : WalkFault). IsFaultAfter map models f) same h
 
 -- a walk over a map that has failed has that map's fault
-pub fault_on : (map : Map) (walk : Walking) (error : WalkFault) → IsOn map walk → Some error ≡ fault_of walk.place → IsOutcome map (Err error)
+pub fault_on : (map : Map) (walk : WalkState) (error : WalkFault) → IsOn map walk → Some error ≡ fault_of walk.place → IsOutcome map (Err error)
 fault_on map walk error on e = (walk.models, failed_at map walk.place walk.models error on e)
+
+-- and so has the answer of the call that it failed in
+pub outcome_at : {T : Type 0} (map : Map) (walk : WalkState) (result : Result T WalkFault) → IsOn map walk → result_err result ≡ fault_of walk.place
+    → IfErr result (λ error. IsOutcome map (Err error))
+outcome_at map walk (Ok x) on e = tt
+outcome_at map walk (Err error) on e = fault_on map walk error on e
 
 finished_at : (map : Map) (place : Place) (models : List Found) → IsAt map place models → fault_of place ≡ None → Done ≡ next_read place → IsChain map models
 finished_at map (Seeking base left) models h e done = absurd cc
@@ -106,7 +114,7 @@ finished_at map Finished models h e done = h
 finished_at map (Failed error) models h e done = absurd cc
 
 -- a walk over a map that is done and hasn't failed has that map's chain
-pub chain_on : (map : Map) (walk : Walking) → IsOn map walk → fault_of walk.place ≡ None → Done ≡ next_read walk.place → IsChain map walk.models
+pub chain_on : (map : Map) (walk : WalkState) → IsOn map walk → fault_of walk.place ≡ None → Done ≡ next_read walk.place → IsChain map walk.models
 chain_on map walk on e done = finished_at map walk.place walk.models on e done
 
 -- the answer to the read that a walk asks for, where the map gives it

@@ -1,5 +1,5 @@
 -- A map has no more than one outcome.
-use Rattle.std.proofs.Common.{◌≡◌, ℕ, ◌+◌, Bool, false, cond, eqb, List, [], ◌∷◌, ◌++◌, Option, Some, None, Result, Ok, Err, refl, sym, ◌∙◌, ap, subst, append_assoc}
+use Rattle.std.proofs.Common.{◌≡◌, ℕ, Bool, false, cond, eqb, List, [], ◌∷◌, ◌++◌, Option, Some, None, Result, Ok, Err, refl, sym, ◌∙◌, ap, subst, append_assoc}
 use Rattle.std.specs.Option.{option_map}
 use Rattle.std.proofs.lemmas.Bool.{ne_eqb}
 use Rattle.std.proofs.lemmas.List.{append-nil}
@@ -7,7 +7,7 @@ use Rattle.model_discovery.specs.declared.found.Found.{Found}
 use Rattle.model_discovery.specs.declared.fault.WalkFault.{WalkFault}
 use Rattle.model_discovery.specs.declared.fault.WalkFault.TheVariants as fault
 use Rattle.model_discovery.specs.Map.{Map, Answer, Registers, Exception}
-use Rattle.model_discovery.specs.Chain.{bases, first_marked, HasHeader, next_header, Stand, model_fault, AreSound, ReachesTo, EndsAt, missing, IsFaultAfter, at_mark, at_model, at_end, at_exception, IsOutcome}
+use Rattle.model_discovery.specs.Chain.{end_mark, bases, base_of, first_header, HasHeader, next_header, Stand, model_fault, AreSound, ReachesTo, EndsAt, absent_model, IsFaultAfter, at_mark, at_model, at_end, at_exception, IsOutcome}
 
 abbrev Outcome : Type 0
 Outcome = Result (List Found) WalkFault
@@ -23,7 +23,7 @@ failed error = Err error
 -- chain goes on
 abbrev verdict : List Found → ℕ → Answer → Option Outcome
 verdict models next (Exception code) = Some (Err (fault.Exception code))
-verdict models next (Registers first second) = cond (eqb first 0xFFFF) (Some (complete models (missing models)))
+verdict models next (Registers first second) = cond (eqb first end_mark) (Some (complete models (absent_model models)))
     (option_map (λ (error : WalkFault). Err error) (model_fault models (record { id = first; start = next; length = second })))
 
 -- the models are sound, and the map comes to this outcome behind them
@@ -34,12 +34,12 @@ record Stops (map : Map) (models : List Found) (next : ℕ) (outcome : Outcome) 
 verdict_at : (map : Map) (models : List Found) (model : Found) (found : Option WalkFault) → HasHeader map model → model_fault models model ≡ found
     → verdict models model.start (map model.start) ≡ option_map (λ (error : WalkFault). Err error) found
 verdict_at map models model found header e =
-    let here : eqb model.id 0xFFFF ≡ false = ne_eqb _ _ header.1 in
+    let here : eqb model.id end_mark ≡ false = ne_eqb _ _ header.1 in
     ap (verdict models model.start) header.0
-    ∙ ap (λ (b : Bool). cond b (Some (complete models (missing models))) (option_map (λ (error : WalkFault). Err error) (model_fault models model))) here
+    ∙ ap (λ (b : Bool). cond b (Some (complete models (absent_model models))) (option_map (λ (error : WalkFault). Err error) (model_fault models model))) here
     ∙ ap (λ (f : Option WalkFault). option_map {U = Outcome} (λ (error : WalkFault). Err error) f) e
 
-verdict_at_end : (map : Map) (models : List Found) (next : ℕ) (lacks : Option ℕ) → EndsAt map next → missing models ≡ lacks
+verdict_at_end : (map : Map) (models : List Found) (next : ℕ) (lacks : Option ℕ) → EndsAt map next → absent_model models ≡ lacks
     → verdict models next (map next) ≡ Some (complete models lacks)
 verdict_at_end map models next lacks ends e = ap (verdict models next) ends.1 ∙ ap (λ (o : Option ℕ). Some (complete models o)) e
 
@@ -85,7 +85,7 @@ same_stop map from before (x ∷ one) (y ∷ other) next next' outcome outcome' 
 
 -- an outcome is that of a map with no mark, or that behind the models which its chain reaches
 data Comes (map : Map) (outcome : Outcome) : Type 0 where
-  unmarked : first_marked map bases ≡ None → outcome ≡ Err fault.NoMark → Comes map outcome
+  unmarked : base_of map bases ≡ None → outcome ≡ Err fault.NoMark → Comes map outcome
   stopped : (models : List Found) (next : ℕ) → ReachesTo map models next → verdict models next (map next) ≡ Some outcome → Comes map outcome
 
 fault_comes : (map : Map) (models : List Found) (error : WalkFault) → IsFaultAfter map models error → Comes map (Err error)
@@ -97,19 +97,19 @@ fault_comes map models error (at_exception next code reached e is) =
     stopped models next reached (ap (verdict models next) e ∙ ap (λ (f : WalkFault). Some (failed f)) (sym is))
 
 comes : (map : Map) (outcome : Outcome) → IsOutcome map outcome → Comes map outcome
-comes map (Ok models) chain = stopped models chain.next chain.reached (verdict_at_end map models chain.next None chain.ended chain.complete)
+comes map (Ok models) chain = stopped models chain.next chain.reach (verdict_at_end map models chain.next None chain.end chain.complete)
 comes map (Err error) failed = fault_comes map failed.0 error failed.1
 
 same_end : (map : Map) (one other : Outcome) → Comes map one → Comes map other → one ≡ other
 same_end map one other (unmarked none e) (unmarked none' e') = e ∙ sym e'
-same_end map one other (unmarked none e) (stopped models next reached v) = let marked = reached.marked in absurd cc
-same_end map one other (stopped models next reached v) (unmarked none e) = let marked = reached.marked in absurd cc
+same_end map one other (unmarked none e) (stopped models next reached v) = let marked = reached.mark in absurd cc
+same_end map one other (stopped models next reached v) (unmarked none e) = let marked = reached.mark in absurd cc
 same_end map one other (stopped models next reached v) (stopped models' next' reached' v') =
-    let first = reached.marked in
-    let second = reached'.marked in
+    let first = reached.mark in
+    let second = reached'.mark in
     let base : reached'.base ≡ reached.base = cc in
-    let stand : Stand map (reached.base + 2) models' next' = subst (λ (b : ℕ). Stand map (b + 2) models' next') base reached'.stand in
-    same_stop map (reached.base + 2) [] models models' next next' one other reached.stand stand
+    let stand : Stand map (first_header reached.base) models' next' = subst (λ (b : ℕ). Stand map (first_header b) models' next') base reached'.stand in
+    same_stop map (first_header reached.base) [] models models' next next' one other reached.stand stand
     (record { sound = reached.sound; verdict_is = v }) (record { sound = reached'.sound; verdict_is = v' })
 
 pub one_outcome : (map : Map) (one other : Outcome) → IsOutcome map one → IsOutcome map other → one ≡ other

@@ -1,4 +1,4 @@
 pub mod Map
 pub mod Chain
-pub mod Walking
+pub mod WalkState
 pub mod Stage

@@ -16,7 +16,12 @@ pub enum WalkFault {
     TooManyModels,
     /// The first model of an identifier from 701 to 704 is shorter than its points need.
     #[error("tooshort {id} {length}")]
-    TooShort { id: u16, length: u16 },
+    TooShort {
+        /// The model's identifier.
+        id: u16,
+        /// How many registers stand behind its header.
+        length: u16,
+    },
     /// The chain ended without this model.
     #[error("missing {0}")]
     Missing(u16),

@@ -19,7 +19,8 @@ struct Reads<'a> {
 }
 
 impl RegisterMap for Reads<'_> {
-    ghost answers = { λ map start. option_map_or (λ answer. Registers answer.1.0 answer.1.1) (find (λ answer. answer.0 == start) map.answers.now) (Exception 2) };
+    ghost answers = { λ map start. option_map_or (λ answer. Registers answer.1.0 answer.1.1)
+        (find (λ answer. answer.0 == start) map.answers.now) (Exception 2) };
 
     fn read(&self, start: u16) -> Result<[u16; 2], u8> {
         match answer_at(self.answers, start) {
@@ -89,25 +90,26 @@ fn the_bank_takes_seven_reads(rt: HostRuntime) -> Result<(), Fail> {
     Ok(())
 }
 
+/// A walk over these answers fails after so many reads with this fault, and `discover` answers it.
+fn fails_with(answers: &[Answer], reads: u32, fault: WalkFault) -> bool {
+    let (made, last, walk) = walked(answers);
+    (made, last) == (reads, Err(fault))
+        && walk.next() == Next::Done
+        && discover(&Reads { answers }).err() == Some(fault)
+}
+
 #[test]
 fn faults_of_maps(rt: HostRuntime) {
     let mut short = BANK;
     short[5] = (40296, (704, 52));
-    let cases: [(&[Answer], u32, WalkFault); 10] = [
-        (
-            &[(50000, MARK), (50002, (1, 15531))],
-            3,
-            WalkFault::ChainLeaves(65535),
-        ),
+    let too_short = WalkFault::TooShort {
+        id: 704,
+        length: 52,
+    };
+    assert!(rt; fails_with(&short, 6, too_short));
+
+    let cases: [(&[Answer], u32, WalkFault); 4] = [
         (&[(40000, (0x5375, 0x6E54))], 3, WalkFault::NoMark),
-        (
-            &short,
-            6,
-            WalkFault::TooShort {
-                id: 704,
-                length: 52,
-            },
-        ),
         (&[(40000, MARK), (40002, END)], 2, WalkFault::Missing(702)),
         (
             &[(0, MARK), (2, (702, 44)), (48, END)],
@@ -119,30 +121,29 @@ fn faults_of_maps(rt: HostRuntime) {
             3,
             WalkFault::Exception(2),
         ),
-        // The longest model that leaves room for a header, and longer ones.
-        (&[(0, MARK), (2, (1, 65530))], 5, WalkFault::Exception(2)),
-        (
-            &[(0, MARK), (2, (1, 65531))],
-            4,
-            WalkFault::ChainLeaves(65535),
-        ),
-        (
-            &[(0, MARK), (2, (1, 65534))],
-            4,
-            WalkFault::ChainLeaves(65538),
-        ),
-        (
-            &[(40000, MARK), (40002, (1, 65535))],
-            2,
-            WalkFault::ChainLeaves(105539),
-        ),
     ];
-    for (answers, wanted_reads, fault) in cases {
-        let (reads, last, mut walk) = walked(answers);
-        assert_eq!(rt; (reads, last), (wanted_reads, Err(fault)));
-        assert_eq!(rt; walk.next(), Next::Done);
-        assert_eq!(rt; discover(&Reads { answers }).err(), Some(fault));
+    for (answers, reads, fault) in cases {
+        assert!(rt; fails_with(answers, reads, fault), "{fault}");
     }
+}
+
+#[test]
+fn lengths_that_leave_the_map(rt: HostRuntime) {
+    let after_15531 = [(50000, MARK), (50002, (1, 15531))];
+    assert!(rt; fails_with(&after_15531, 3, WalkFault::ChainLeaves(65535)));
+
+    // The longest model behind the mark at 0 that leaves room for a header, and longer ones.
+    let cases = [
+        (65530, 5, WalkFault::Exception(2)),
+        (65531, 4, WalkFault::ChainLeaves(65535)),
+        (65534, 4, WalkFault::ChainLeaves(65538)),
+    ];
+    for (length, reads, fault) in cases {
+        let answers = [(0, MARK), (2, (1, length))];
+        assert!(rt; fails_with(&answers, reads, fault), "{length}");
+    }
+    let longest = [(40000, MARK), (40002, (1, 65535))];
+    assert!(rt; fails_with(&longest, 2, WalkFault::ChainLeaves(105539)));
 }
 
 #[test]
@@ -220,4 +221,33 @@ fn texts_of_faults(rt: HostRuntime) -> Result<(), Fail> {
         assert_eq!(rt; shown.as_str(), text);
     }
     Ok(())
+}
+
+#[test]
+fn values_that_differ(rt: HostRuntime) {
+    let found = Found {
+        id: 702,
+        start: 40002,
+        length: 44,
+    };
+    assert_ne!(rt;
+        found,
+        Found {
+            length: 45,
+            ..found
+        }
+    );
+    let read = Next::Read {
+        start: 40000,
+        count: 2,
+    };
+    assert_ne!(rt;
+        read,
+        Next::Read {
+            start: 50000,
+            count: 2
+        }
+    );
+    assert_ne!(rt; read, Next::Done);
+    assert_ne!(rt; WalkFault::Missing(702), WalkFault::Missing(704));
 }

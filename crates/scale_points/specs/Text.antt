@@ -5,6 +5,10 @@ use Rattle.std.specs.List.{flat_map, before_first}
 use Rattle.std.specs.Int.{w16, to_be_bytes}
 use Rattle.std.specs.Str.{IsAscii}
 
+-- how many registers a text may have
+abbrev pub text_registers : ℕ
+text_registers = 32
+
 -- the bytes of the registers
 abbrev pub bytes_of : List ℕ → List ℕ
 bytes_of regs = flat_map (to_be_bytes w16) regs
@@ -17,8 +21,8 @@ up_to_zero bytes = before_first (λ byte. byte == 0) bytes
 abbrev pub text_at : List ℕ → ℕ → ℕ → List ℕ
 text_at regs at count = up_to_zero (bytes_of (slice_range regs at (at + count)))
 
--- which registers have a text: those within the slice, at most 32, and with no byte above 127 in it
+-- which registers have a text: those within the slice, not too many, and with no byte above 127 in it
 pub record HasText (regs : List ℕ) (at count : ℕ) : Type 0 where
   pub within : at + count ≤ length regs
-  pub short : count ≤ 32
+  pub short : count ≤ text_registers
   pub ascii : IsAscii (text_at regs at count)

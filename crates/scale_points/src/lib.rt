@@ -5,11 +5,13 @@
 //! `specs/Numbers.antt` or `specs/Text.antt`.
 #![tactic(auto)]
 
+mod laws;
 mod numbers;
 mod strings;
 
-pub use numbers::{enum16, int16, sunssf, uint16, uint32};
-pub use strings::{TEXT_REGISTERS, text};
+pub use laws::text_limits;
+pub use numbers::{double_word, enum16, int16, sunssf, uint16, uint32};
+pub use strings::{TEXT_BYTES, TEXT_REGISTERS, text};
 
 #[cfg(test)]
 mod tests;

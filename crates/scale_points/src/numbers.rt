@@ -1,6 +1,6 @@
 //! Points of a number.
 ghost use Rattle.std.specs.Prelude.{◌≡◌};
-ghost use Rattle.scale_points.specs.Numbers.{uint16_at, int16_at, enum16_at, uint32_at, sunssf_at};
+ghost use Rattle.scale_points.specs.Numbers.{double_word, uint16_at, int16_at, enum16_at, uint32_at, sunssf_at};
 
 /// What uint16 and enum16 hold where they aren't implemented.
 const UNSIGNED_ABSENT: u16 = 0xFFFF;
@@ -49,7 +49,7 @@ pub fn uint32(regs: &[u16], at: usize) -> Option<u32>
 {
     let high = *regs.get(at)?;
     let low = *regs.get(at.checked_add(1)?)?;
-    let number = u32::from(high) * 0x1_0000 + u32::from(low);
+    let number = double_word(high, low);
     if number == DOUBLE_ABSENT {
         None
     } else {
@@ -67,4 +67,11 @@ pub fn sunssf(regs: &[u16], at: usize) -> Option<i8>
         power @ -10..=10 => Some(power as i8),
         _ => None,
     }
+}
+
+/// The number of two registers, of which the first is the high one.
+pub fn double_word(high: u16, low: u16) -> u32
+    ensures { result ≡ double_word high low }
+{
+    u32::from(high) * 0x1_0000 + u32::from(low)
 }

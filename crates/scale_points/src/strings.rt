@@ -1,19 +1,23 @@
 //! Points of a text.
-ghost use Rattle.std.specs.Prelude.{◌≡◌, ◌≤◌, ◌==◌, length, position, SomeIff};
+ghost use Rattle.std.specs.Prelude.{◌≡◌, ◌*◌, ◌≤◌, ◌==◌, length, position, SomeIff};
 ghost use Rattle.std.specs.Option.{option_map};
 ghost use Rattle.std.specs.Str.{IsAscii};
-ghost use Rattle.scale_points.specs.Text.{bytes_of, up_to_zero, text_at, HasText};
+ghost use Rattle.scale_points.specs.Text.{text_registers, bytes_of, up_to_zero, text_at, HasText};
 
 use arrayvec::{ArrayString, ArrayVec};
 
-/// How many registers a text may have: two bytes each, as many as an `ArrayString<64>` holds.
+/// How many registers a text may have.
 pub const TEXT_REGISTERS: usize = 32;
+
+/// How many bytes those registers have, and so a text at most.
+pub const TEXT_BYTES: usize = 2 * TEXT_REGISTERS;
 
 /// The text in the `count` registers from offset `at` on: their bytes, the high one of each register
 /// first, up to the first zero byte. None where they reach past the end, are more than
 /// `TEXT_REGISTERS`, or have a byte above 127 in the text.
-pub fn text(regs: &[u16], at: usize, count: usize) -> Option<ArrayString<64>>
-    ensures { SomeIff (option_map (λ text. text.bytes) result) (HasText regs.now at count) (text_at regs.now at count) }
+pub fn text(regs: &[u16], at: usize, count: usize) -> Option<ArrayString<TEXT_BYTES>>
+    ensures { SomeIff (option_map (λ text. text.bytes) result)
+        (HasText regs.now at count) (text_at regs.now at count) }
 {
     if count > TEXT_REGISTERS {
         return None;
@@ -23,8 +27,8 @@ pub fn text(regs: &[u16], at: usize, count: usize) -> Option<ArrayString<64>>
 }
 
 /// The bytes of the registers, the high one of each first.
-fn register_bytes(regs: &[u16]) -> ArrayVec<u8, 64>
-    requires { length regs.now ≤ 32 }
+fn register_bytes(regs: &[u16]) -> ArrayVec<u8, TEXT_BYTES>
+    requires { length regs.now ≤ text_registers }
     ensures { result.items ≡ bytes_of regs.now }
 {
     let mut bytes = ArrayVec::new();
@@ -54,8 +58,8 @@ fn up_to_zero(bytes: &[u8]) -> &[u8]
 }
 
 /// The bytes as a text. None where one is above 127.
-fn ascii_text(bytes: &[u8]) -> Option<ArrayString<64>>
-    requires { length bytes.now ≤ 64 }
+fn ascii_text(bytes: &[u8]) -> Option<ArrayString<TEXT_BYTES>>
+    requires { length bytes.now ≤ 2 * text_registers }
     ensures { SomeIff (option_map (λ text. text.bytes) result) (IsAscii bytes.now) bytes.now }
 {
     if !bytes.is_ascii() {

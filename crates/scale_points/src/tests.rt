@@ -1,4 +1,5 @@
 use super::*;
+use arrayvec::ArrayString;
 
 #[test]
 fn each_kind_at_and_beside_its_absent_value(rt: HostRuntime) {
@@ -25,6 +26,7 @@ fn each_kind_at_and_beside_its_absent_value(rt: HostRuntime) {
 
 #[test]
 fn two_registers_high_first(rt: HostRuntime) {
+    assert_eq!(rt; double_word(1, 2), 0x1_0002);
     assert_eq!(rt; uint32(&[0, 1, 2], 1), Some(0x1_0002));
     assert_eq!(rt; uint32(&[0xFFFF, 0xFFFE], 0), Some(0xFFFF_FFFE));
     assert_eq!(rt; uint32(&[0xFFFF, 0xFFFF], 0), None);
@@ -46,7 +48,8 @@ fn a_text_ends_at_its_zero_byte(rt: HostRuntime) {
         shows(&[0, 0x4100, 0xFFFF], 1, 2, "A"),
         "what is behind the zero byte is not read"
     );
-    assert!(rt; text(&[0x4141; 33], 1, 32).is_some_and(|text| text.len() == 64));
+    let longest: Option<ArrayString<64>> = text(&[0x4141; 33], 1, 32);
+    assert!(rt; longest.is_some_and(|text| text.len() == 64));
     assert!(rt; text(&[0x4141; 33], 0, 33).is_none(), "33 registers");
     assert!(rt; text(&[0x4180], 0, 1).is_none(), "a byte of 128");
     assert!(rt; text(&[0x4100], 0, 2).is_none(), "past the end");

@@ -1,5 +1,5 @@
 use Rattle.std.proofs.Common.{◌≡◌, None}
-use Rattle.model_discovery.specs.Walking.{IsOn, fault_of}
+use Rattle.model_discovery.specs.WalkState.{IsOn, fault_of}
 use Rattle.model_discovery.proofs.Measure.{reads_left}
 use Rattle.model_discovery.proofs.whole_walk.discover.Given as goal
 
