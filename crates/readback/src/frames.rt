@@ -3,7 +3,7 @@ ghost use Rattle.std.specs.Prelude.{◌≡◌, ◌+◌, ◌≤◌, ◌<◌, leng
 ghost use Rattle.modbus_pdu.specs.Grammar.{IsReadCount, IsRequest};
 ghost use Rattle.modbus_pdu.specs.declared.pdu.Request.TheVariants as request;
 ghost use Rattle.der_models.specs.Limit.{limit_registers};
-ghost use Rattle.readback.specs.Frames.{read_pdu, limit_address, limit_pdu, write_frame, read_frame};
+ghost use Rattle.readback.specs.Frames.{read_pdu, read_back_pdu, limit_address, limit_pdu, write_frame, read_frame};
 
 use der_models::limit_block;
 use der_models::offsets::M704_W_MAX_LIM_PCT_ENA;
@@ -35,7 +35,7 @@ pub fn read_request(read: &Read, port: &Port) -> Frame
     ensures spelled { IsRequest result.pdu (request.ReadRegs (limit_address port.now) 8) }
     ensures begins { 0 < length result.pdu }
 {
-    registers_request(read.number, port.unit, limit_start(port), LIMIT_REGISTERS)
+    read_back_request(read.number, port)
 }
 
 /// The frame, of this transaction number, that sets a raw limit with the unit's floor and the rules' timer.
@@ -57,6 +57,16 @@ pub fn limit_request(number: u16, raw: u16, unit: &Unit, port: &Port, rules: &Ru
         unit: port.unit,
         pdu: encode_request(&request),
     }
+}
+
+/// The frame, of this transaction number, that reads the limit back.
+pub fn read_back_request(number: u16, port: &Port) -> Frame
+    requires { port.now.base ≤ 65514 }
+    ensures frame { result ≡ record { transaction = number; unit = port.now.unit; pdu = read_back_pdu port.now } }
+    ensures spelled { IsRequest result.pdu (request.ReadRegs (limit_address port.now) 8) }
+    ensures begins { 0 < length result.pdu }
+{
+    registers_request(number, port.unit, limit_start(port), LIMIT_REGISTERS)
 }
 
 /// The frame, of this transaction number, that asks a unit for `count` holding registers from `start` on, function 03.

@@ -1,0 +1,6 @@
+pub mod Stage
+pub mod Asking
+pub mod Replies
+pub mod Taking
+pub mod Ending
+pub mod Keeping
