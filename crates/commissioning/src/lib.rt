@@ -9,12 +9,14 @@
 mod commission;
 mod fault;
 mod found;
+mod laws;
 mod steps;
 mod target;
 
 pub use commission::{Commission, Took};
 pub use fault::CommissionFault;
 pub use found::Record702;
+pub use laws::{one_frame_more, replies_lead_there, requests_are_numbered, what_has_passed};
 
 #[cfg(test)]
 mod tests;
