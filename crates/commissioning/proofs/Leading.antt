@@ -61,18 +61,18 @@ at_more target all all' stage pdu answer here asks next =
     let skip : is_skipped standing next.came ≡ false = not_skipped _ (ltb 0 7) number in
     let goes = replied_at standing next.came pdu asks skip in
     let frames : replies_of all' ≡ replies_of all ++ next.came ∷ [] =
-      ap replies_of next.exchange ∙ map-append (λ (x : Exchange). x.reply) all (exchange_behind target all pdu next.came ∷ []) in
+    ap replies_of next.exchange ∙ map-append (λ (x : Exchange). x.reply) all (exchange_behind target all pdu next.came ∷ []) in
     let longer : length all' ≡ length all + 1 =
-      ap length next.exchange ∙ omega (arith, length-append all (exchange_behind target all pdu next.came ∷ [])) in
+    ap length next.exchange ∙ omega (arith, length-append all (exchange_behind target all pdu next.came ∷ [])) in
     let stage_is : replied standing next.came ≡ stands target all' (stage_after target stage (Some answer)) =
-      rw (heard target all all' pdu answer next, longer) refl in
+    rw (heard target all all' pdu answer next, longer) refl in
     record {
       standing = ap (standing_after target) frames ∙ standing_after-more target (replies_of all) next.came
-        ∙ ap (λ (s : Standing). after s next.came) here.standing ∙ goes.goes ∙ stage_is;
+          ∙ ap (λ (s : Standing). after s next.came) here.standing ∙ goes.goes ∙ stage_is;
       had = ap (exchanges target) frames ∙ exchanges-more target (replies_of all) next.came
-        ∙ ap (λ (s : Standing). exchanges target (replies_of all) ++ exchange_by s next.came) here.standing
-        ∙ ap (λ (xs : List Exchange). xs ++ exchange_by standing next.came) here.had
-        ∙ ap (λ (xs : List Exchange). all ++ xs) goes.ends ∙ sym next.exchange;
+          ∙ ap (λ (s : Standing). exchanges target (replies_of all) ++ exchange_by s next.came) here.standing
+          ∙ ap (λ (xs : List Exchange). xs ++ exchange_by standing next.came) here.had
+          ∙ ap (λ (xs : List Exchange). all ++ xs) goes.ends ∙ sym next.exchange;
     }
 
 at_stage : (target : Target) (all : List Exchange) (stage stage' : Stage) → stage ≡ stage' → IsAt target all stage → IsAt target all stage'
@@ -103,16 +103,16 @@ walked_at target (goes_on {before} {all} {walk} {after = after'} start' count an
     let asks : wanted_pdu (next_read walk.place) ≡ Some (read_pdu start' count) = ap wanted_pdu wants in
     let some : IsSome (wanted_pdu (next_read walk.place)) = rw asks refl in
     let here : IsAt target before (Discovering walk) =
-      at_stage target before (walked walk) (Discovering walk) (goes_on_with walk.place walk.models some) (walked_at target walked') in
+    at_stage target before (walked walk) (Discovering walk) (goes_on_with walk.place walk.models some) (walked_at target walked') in
     at_stage target all (discovered walk (block_of 2 (Some answer))) (walked after') (told_right walk answer told' tells ∙ ap walked (sym is))
     (at_more target before all (Discovering walk) (read_pdu start' count) answer here asks next)
 
 discovered_at : (target : Target) (all : List Exchange) (start' base : ℕ) → IsDiscovered target all start' base → IsAt target all (ReadingCapacity start' base)
 discovered_at target all start' base is =
     let one : start_of 702 is.models ≡ start' =
-      ap (λ (o : Option Found). option_map_or (λ (m : Found). m.start) o 0) is.first_capacity ∙ sym is.capacity_start in
+    ap (λ (o : Option Found). option_map_or (λ (m : Found). m.start) o 0) is.first_capacity ∙ sym is.capacity_start in
     let other : start_of 704 is.models ≡ base =
-      ap (λ (o : Option Found). option_map_or (λ (m : Found). m.start) o 0) is.first_controls ∙ sym is.controls_start in
+    ap (λ (o : Option Found). option_map_or (λ (m : Found). m.start) o 0) is.first_controls ∙ sym is.controls_start in
     let stage : ReadingCapacity (start_of 702 is.models) (start_of 704 is.models) ≡ ReadingCapacity start' base = cc (one, other) in
     at_stage target all _ _ stage (walked_at target is.walked)
 
@@ -147,10 +147,10 @@ controls_at target all found has is =
     let here = capacity_at target has.before found.base found.wmax found.wsf has.capacity in
     let psf = has.psf_is in
     let found_is : compared target.unit target.port (record { base = found.base; wmax = found.wmax; wsf = found.wsf; psf = raw_psf has.values })
-        ≡ compared target.unit target.port found =
-      ap (λ (p : ℤ). compared target.unit target.port (record { base = found.base; wmax = found.wmax; wsf = found.wsf; psf = p })) (sym psf) in
+    ≡ compared target.unit target.port found =
+    ap (λ (p : ℤ). compared target.unit target.port (record { base = found.base; wmax = found.wmax; wsf = found.wsf; psf = p })) (sym psf) in
     let stage : compared target.unit target.port found ≡ WritingFloor found =
-      ap (λ (o : Option CommissionFault). option_map_or (λ e. Refused e (Some found)) o (WritingFloor found)) (fit target found is) in
+    ap (λ (o : Option CommissionFault). option_map_or (λ e. Refused e (Some found)) o (WritingFloor found)) (fit target found is) in
     at_stage target all _ _
     (ap (controls_read target.unit target.port found.base found.wmax found.wsf) (block_right 55 has.values has.size) ∙ found_is ∙ stage)
     (at_more target has.before all (ReadingControls found.base found.wmax found.wsf) (read_pdu found.base 55) (reply.Regs has.values) here refl has.block)
@@ -160,7 +160,7 @@ written_at target all found is =
     let here = controls_at target is.before found is.controls is.fit in
     let address = limit_address target.port in
     let stage : floor_written target.port found (Some (reply.Wrote address 6)) ≡ ReadingBack found =
-      ap (λ (b : Bool). cond b (ReadingBack found) (Refused fault.WrongReply (Some found))) (and_from _ _ (eq-eqb address address refl) refl) in
+    ap (λ (b : Bool). cond b (ReadingBack found) (Refused fault.WrongReply (Some found))) (and_from _ _ (eq-eqb address address refl) refl) in
     at_stage target all _ _ stage
     (at_more target is.before all (WritingFloor found) _ (reply.Wrote address 6) here refl is.write)
 
@@ -169,8 +169,8 @@ commissioned_at target all found is =
     let here = written_at target is.before found is.written in
     let floor = target.unit.floor in
     let stage : read_back floor found (reply_judgement floor target.rules.timer (Some is.answer)) ≡ Commissioned found =
-      ap (read_back floor found) is.shows
-      ∙ ap (λ (b : Bool). cond b (Commissioned found) (Refused (fault.Unfit point.Pct (pos floor) (pos floor)) (Some found))) (eq-eqb floor floor refl) in
+    ap (read_back floor found) is.shows
+    ∙ ap (λ (b : Bool). cond b (Commissioned found) (Refused (fault.Unfit point.Pct (pos floor) (pos floor)) (Some found))) (eq-eqb floor floor refl) in
     at_stage target all _ _ stage
     (at_more target is.before all (ReadingBack found) (read_back_pdu target.port) is.answer here refl is.read_back)
 

@@ -27,12 +27,12 @@ replied standing frame = record {
 -- nothing is asked; the frame is skipped; or it is a reply
 pub data Moves (standing : Standing) (frame : Frame) : Type 0 where
   over : asked standing ≡ None → after standing frame ≡ standing → exchange_by standing frame ≡ [] → request_by standing frame ≡ []
-    → Moves standing frame
+      → Moves standing frame
   skips : (after standing frame ≡ record standing { skipped = standing.skipped + 1 }) → exchange_by standing frame ≡ [] → request_by standing frame ≡ []
-    → Moves standing frame
+      → Moves standing frame
   replies : (pdu : List ℕ) → asked_pdu standing.target standing.stage ≡ Some pdu → after standing frame ≡ replied standing frame
-    → exchange_by standing frame ≡ exchanged standing pdu frame ∷ []
-    → request_by standing frame ≡ option_to_list (asked (replied standing frame)) → Moves standing frame
+      → exchange_by standing frame ≡ exchanged standing pdu frame ∷ []
+      → request_by standing frame ≡ option_to_list (asked (replied standing frame)) → Moves standing frame
 
 cond_same : {A : Type 0} (b : Bool) (x y : A) → y ≡ x → cond b x y ≡ x
 cond_same true x y e = refl
@@ -49,9 +49,9 @@ replied_at standing frame pdu asks skip =
     let some : asked standing ≡ Some (request_frame standing.target standing.number pdu) = ap (option_map (request_frame standing.target standing.number)) asks in
     record {
       goes = ap (λ (o : Option Frame). cond (is_some o) (taken standing frame) standing) some
-        ∙ ap (λ (b : Bool). cond b (record standing { skipped = standing.skipped + 1 }) (replied standing frame)) skip;
+          ∙ ap (λ (b : Bool). cond b (record standing { skipped = standing.skipped + 1 }) (replied standing frame)) skip;
       ends = ap (λ (b : Bool). cond b [] (map (λ (r : Frame). record { request = r; reply = frame }) (option_to_list (asked standing)))) skip
-        ∙ ap (λ (o : Option Frame). map (λ (r : Frame). record { request = r; reply = frame }) (option_to_list o)) some;
+          ∙ ap (λ (o : Option Frame). map (λ (r : Frame). record { request = r; reply = frame }) (option_to_list o)) some;
     }
 
 moves_at : (standing : Standing) (frame : Frame) (pdu : Option (List ℕ)) (skip : Bool) → asked_pdu standing.target standing.stage ≡ pdu
@@ -66,7 +66,7 @@ moves_at standing frame (Some pdu) true asks skip =
     let some : asked standing ≡ Some (request_frame standing.target standing.number pdu) = ap (option_map (request_frame standing.target standing.number)) asks in
     skips
     (ap (λ (o : Option Frame). cond (is_some o) (taken standing frame) standing) some
-      ∙ ap (λ (b : Bool). cond b (record standing { skipped = standing.skipped + 1 }) (replied standing frame)) skip)
+    ∙ ap (λ (b : Bool). cond b (record standing { skipped = standing.skipped + 1 }) (replied standing frame)) skip)
     (ap (λ (b : Bool). cond b [] (map (λ (r : Frame). record { request = r; reply = frame }) (option_to_list (asked standing)))) skip)
     (ap (λ (b : Bool). cond b [] (option_to_list (asked (after standing frame)))) skip)
 moves_at standing frame (Some pdu) false asks skip =
@@ -99,7 +99,7 @@ requests_of xs = map (λ x. x.request) xs
 -- the request that was asked, and the one that the frame leads to
 asked_next : (standing : Standing) (frame : Frame) → Moves standing frame
     → requests_of (exchange_by standing frame) ++ option_to_list (asked (after standing frame))
-      ≡ option_to_list (asked standing) ++ request_by standing frame
+    ≡ option_to_list (asked standing) ++ request_by standing frame
 asked_next standing frame (over none stays ends leads) =
     rw (leads, ends, stays, none) refl
 asked_next standing frame (skips goes ends leads) =
@@ -129,7 +129,7 @@ numbered_now standing (Some pdu) = (refl, refl, tt)
 numbered_move : (standing : Standing) (frame : Frame) (frames : List Frame) → Moves standing frame
     → ((s : Standing) → AreNumbered s.target s.number (requests_of (exchanges_from s frames) ++ option_to_list (asked (fold after s frames))))
     → AreNumbered standing.target standing.number
-      (requests_of (exchange_by standing frame ++ exchanges_from (after standing frame) frames) ++ option_to_list (asked (fold after (after standing frame) frames)))
+    (requests_of (exchange_by standing frame ++ exchanges_from (after standing frame) frames) ++ option_to_list (asked (fold after (after standing frame) frames)))
 numbered_move standing frame frames (over none stays ends leads) rest = rw (ends, stays) (rest standing)
 numbered_move standing frame frames (skips goes ends leads) rest = rw (ends, goes) (rest (record standing { skipped = standing.skipped + 1 }))
 numbered_move standing frame frames (replies pdu asks goes ends leads) rest = rw (ends, goes) (refl, refl, rest (replied standing frame))

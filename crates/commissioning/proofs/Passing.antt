@@ -191,31 +191,31 @@ pub discovered_passed : (target : Target) (had : List Exchange) (walk : Walking)
     → Passed target (more target had pdu frame) (discovered walk heard)
 discovered_passed target had walk pdu frame heard reached asks is = told_passed heard is
   where
-  is_wanted : IsWanted (next_read walk.place) pdu
-  is_wanted = wanted (next_read walk.place) pdu asks
+    is_wanted : IsWanted (next_read walk.place) pdu
+    is_wanted = wanted (next_read walk.place) pdu asks
 
-  goes : (answer : Reply) (tells : Answer) → heard_in target had frame ≡ Some answer → Tells answer tells
-      → IsWalked target (more target had pdu frame) (walk_told walk tells)
-  goes answer tells heard' right =
-      let next : Follows target had (read_pdu is_wanted.start is_wanted.count) answer (more target had pdu frame) =
+    goes : (answer : Reply) (tells : Answer) → heard_in target had frame ≡ Some answer → Tells answer tells
+        → IsWalked target (more target had pdu frame) (walk_told walk tells)
+    goes answer tells heard' right =
+        let next : Follows target had (read_pdu is_wanted.start is_wanted.count) answer (more target had pdu frame) =
         subst (λ (p : List ℕ). Follows target had p answer (more target had pdu frame)) is_wanted.pdu_is (follows target had pdu frame answer heard') in
-      goes_on is_wanted.start is_wanted.count answer tells reached.0 is_wanted.read next right refl
+        goes_on is_wanted.start is_wanted.count answer tells reached.0 is_wanted.read next right refl
 
-  told_passed : (heard : Result (List ℕ) CommissionFault) → block_of 2 (heard_in target had frame) ≡ heard
-      → Passed target (more target had pdu frame) (discovered walk heard)
-  told_passed (Ok values) is =
-      let block = block_ok 2 (heard_in target had frame) values is in
-      let after' = walk_told walk (registers values) in
-      walk_passed target (more target had pdu frame) after'.place after'.models (goes (reply.Regs values) (registers values) block.0 (block.1, refl))
-      (λ error found cause. refused target had (Discovering walk) pdu frame error found reached asks (ap (discovered walk) is ∙ cause))
-  told_passed (Err (fault.Exception code)) is =
-      let after' = walk_told walk (Exception code) in
-      walk_passed target (more target had pdu frame) after'.place after'.models
-      (goes (reply.Exception 3 code) (Exception code) (block_exception 2 (heard_in target had frame) code is) (refl, refl))
-      (λ error found cause. refused target had (Discovering walk) pdu frame error found reached asks (ap (discovered walk) is ∙ cause))
-  told_passed (Err (fault.Walk error)) is = refused target had (Discovering walk) pdu frame _ _ reached asks (ap (discovered walk) is)
-  told_passed (Err (fault.Unfit at wanted' found)) is = refused target had (Discovering walk) pdu frame _ _ reached asks (ap (discovered walk) is)
-  told_passed (Err fault.WrongReply) is = refused target had (Discovering walk) pdu frame _ _ reached asks (ap (discovered walk) is)
+    told_passed : (heard : Result (List ℕ) CommissionFault) → block_of 2 (heard_in target had frame) ≡ heard
+        → Passed target (more target had pdu frame) (discovered walk heard)
+    told_passed (Ok values) is =
+        let block = block_ok 2 (heard_in target had frame) values is in
+        let after' = walk_told walk (registers values) in
+        walk_passed target (more target had pdu frame) after'.place after'.models (goes (reply.Regs values) (registers values) block.0 (block.1, refl))
+        (λ error found cause. refused target had (Discovering walk) pdu frame error found reached asks (ap (discovered walk) is ∙ cause))
+    told_passed (Err (fault.Exception code)) is =
+        let after' = walk_told walk (Exception code) in
+        walk_passed target (more target had pdu frame) after'.place after'.models
+        (goes (reply.Exception 3 code) (Exception code) (block_exception 2 (heard_in target had frame) code is) (refl, refl))
+        (λ error found cause. refused target had (Discovering walk) pdu frame error found reached asks (ap (discovered walk) is ∙ cause))
+    told_passed (Err (fault.Walk error)) is = refused target had (Discovering walk) pdu frame _ _ reached asks (ap (discovered walk) is)
+    told_passed (Err (fault.Unfit at wanted' found)) is = refused target had (Discovering walk) pdu frame _ _ reached asks (ap (discovered walk) is)
+    told_passed (Err fault.WrongReply) is = refused target had (Discovering walk) pdu frame _ _ reached asks (ap (discovered walk) is)
 
 capacity_passed : (target : Target) (had : List Exchange) (start base : ℕ) (frame : Frame) (heard : Result (List ℕ) CommissionFault)
     → Reached target had (ReadingCapacity start base) → block_of 46 (heard_in target had frame) ≡ heard
@@ -257,7 +257,7 @@ fits : (target : Target) (found : Record702) → misfit target.unit target.port 
 fits target found e =
     let rating = target.unit.rating in
     let all = none_of (unlike point.Base (pos target.port.base) (pos found.base)) (unlike point.WMax (pos rating.wmax) (pos found.wmax))
-      (unlike point.WSf rating.wsf found.wsf) (unlike point.PctSf rating.psf found.psf) e in
+    (unlike point.WSf rating.wsf found.wsf) (unlike point.PctSf rating.psf found.psf) e in
     let base : pos target.port.base ≡ pos found.base = like point.Base _ _ _ refl all.first in
     let wmax : pos rating.wmax ≡ pos found.wmax = like point.WMax _ _ _ refl all.second in
     record {
@@ -293,8 +293,8 @@ controls_passed target had base wmax wsf frame (Ok values) reached is =
     } in
     compared_passed target (more target had (read_pdu base 55) frame) found (misfit target.unit target.port found) has
     (λ e unfit. refused target had (ReadingControls base wmax wsf) (read_pdu base 55) frame e (Some found) reached refl
-      (ap (controls_read target.unit target.port base wmax wsf) is
-        ∙ ap (λ (o : Option CommissionFault). option_map_or (λ e. Refused e (Some found)) o (WritingFloor found)) unfit))
+    (ap (controls_read target.unit target.port base wmax wsf) is
+    ∙ ap (λ (o : Option CommissionFault). option_map_or (λ e. Refused e (Some found)) o (WritingFloor found)) unfit))
     refl
 
 wrote_right : (address start count : ℕ) (right : Bool) → (eqb start address && eqb count 6) ≡ right → right ≡ true → (start ≡ address) × (count ≡ 6)
@@ -321,7 +321,7 @@ wrote_passed target had found frame start count true reached heard right =
 wrote_passed target had found frame start count false reached heard right =
     refused target had (WritingFloor found) (floor_pdu target) frame fault.WrongReply (Some found) reached refl
     (ap (floor_written target.port found) heard
-      ∙ ap (λ (b : Bool). cond b (ReadingBack found) (Refused fault.WrongReply (Some found))) right)
+    ∙ ap (λ (b : Bool). cond b (ReadingBack found) (Refused fault.WrongReply (Some found))) right)
 
 floor_passed : (target : Target) (had : List Exchange) (found : Record702) (frame : Frame) (answer : Option Reply)
     → Reached target had (WritingFloor found) → heard_in target had frame ≡ answer
@@ -339,7 +339,7 @@ shown_passed : (target : Target) (had : List Exchange) (found : Record702) (fram
     → Reached target had (ReadingBack found) → heard_in target had frame ≡ answer
     → reply_judgement target.unit.floor target.rules.timer answer ≡ judged.Shows raw → eqb raw target.unit.floor ≡ right
     → Passed target (more target had (read_back_pdu target.port) frame)
-      (cond right (Commissioned found) (Refused (fault.Unfit point.Pct (pos target.unit.floor) (pos raw)) (Some found)))
+    (cond right (Commissioned found) (Refused (fault.Unfit point.Pct (pos target.unit.floor) (pos raw)) (Some found)))
 shown_passed target had found frame None raw true reached is shows right = absurd cc
 shown_passed target had found frame (Some answer) raw true reached is shows right =
     record {
@@ -352,8 +352,8 @@ shown_passed target had found frame (Some answer) raw true reached is shows righ
 shown_passed target had found frame answer raw false reached is shows right =
     refused target had (ReadingBack found) (read_back_pdu target.port) frame _ (Some found) reached refl
     (ap (λ (o : Option Reply). read_back target.unit.floor found (reply_judgement target.unit.floor target.rules.timer o)) is
-      ∙ ap (read_back target.unit.floor found) shows
-      ∙ ap (λ (b : Bool). cond b (Commissioned found) (Refused (fault.Unfit point.Pct (pos target.unit.floor) (pos raw)) (Some found))) right)
+    ∙ ap (read_back target.unit.floor found) shows
+    ∙ ap (λ (b : Bool). cond b (Commissioned found) (Refused (fault.Unfit point.Pct (pos target.unit.floor) (pos raw)) (Some found))) right)
 
 back_passed : (target : Target) (had : List Exchange) (found : Record702) (frame : Frame) (is : Judged)
     → Reached target had (ReadingBack found) → reply_judgement target.unit.floor target.rules.timer (heard_in target had frame) ≡ is
@@ -415,9 +415,9 @@ kept_move target had standing frame kept (replies pdu asks goes ends leads) =
     let asks' : asked_pdu target standing.stage ≡ Some pdu = ap (λ (t : Target). asked_pdu t standing.stage) (sym kept.same) ∙ asks in
     let here = exchange_is target had standing pdu frame kept.same kept.number in
     let stage_is : stage_after standing.target standing.stage (reply_in standing.target standing.number frame)
-        ≡ stage_after target standing.stage (heard_in target had frame) =
-      ap (λ (t : Target). stage_after t standing.stage (reply_in t standing.number frame)) kept.same
-      ∙ ap (λ (n : ℕ). stage_after target standing.stage (reply_in target n frame)) kept.number in
+    ≡ stage_after target standing.stage (heard_in target had frame) =
+    ap (λ (t : Target). stage_after t standing.stage (reply_in t standing.number frame)) kept.same
+    ∙ ap (λ (n : ℕ). stage_after target standing.stage (reply_in target n frame)) kept.number in
     let number = kept.number in
     rw (ends, goes, here) (record {
       same = kept.same;

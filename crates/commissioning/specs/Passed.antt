@@ -46,9 +46,9 @@ Tells (reply.Wrote start count) answer = ⊥
 pub data IsWalked (target : Target) : List Exchange → Walking → Type 0 where
   begins : IsWalked target [] first_walk
   goes_on : {before all : List Exchange} {walk after : Walking} (start count : ℕ) (heard : Reply) (answer : Answer)
-    → IsWalked target before walk → next_read walk.place ≡ Read start count
-    → Follows target before (read_pdu start count) heard all → Tells heard answer → after ≡ walk_told walk answer
-    → IsWalked target all after
+      → IsWalked target before walk → next_read walk.place ≡ Read start count
+      → Follows target before (read_pdu start count) heard all → Tells heard answer → after ≡ walk_told walk answer
+      → IsWalked target all after
 
 -- The walk has found its chain, and in it the first 702 and the first 704.
 pub record IsDiscovered (target : Target) (all : List Exchange) (start base : ℕ) : Type 0 where
