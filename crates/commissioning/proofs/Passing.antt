@@ -407,7 +407,7 @@ exchange_is target had standing pdu frame same number = rw (same, number) refl
 
 kept_move : (target : Target) (had : List Exchange) (standing : Standing) (frame : Frame) → IsKept target had standing → Moves standing frame
     → IsKept target (had ++ exchange_by standing frame) (after standing frame)
-kept_move target had standing frame kept (over none stays ends leads) =
+kept_move target had standing frame kept (over none stays ends) =
     rw (ends, stays, append-nil) kept
 kept_move target had standing frame kept (skips goes ends leads) =
     rw (ends, goes, append-nil) (record { same = kept.same; number = kept.number; passed = kept.passed })

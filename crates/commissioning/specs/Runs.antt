@@ -38,9 +38,9 @@ abbrev pub requests : Target → List Frame → List Frame
 requests target frames =
     map (λ exchange. exchange.request) (exchanges target frames) ++ option_to_list (asked (standing_after target frames))
 
--- the request that one frame more leads to
+-- the request that a frame leads to: none where it is skipped, nor at the end
 abbrev pub request_by : Standing → Frame → List Frame
-request_by standing frame = if is_skipped standing frame then [] else option_to_list (asked (after standing frame))
+request_by standing frame = if is_skipped standing frame then [] else option_to_list (asked (taken standing frame))
 
 -- requests to the unit of the port, with the numbers from one on
 abbrev pub AreNumbered : Target → ℕ → List Frame → Type 0

@@ -1,5 +1,5 @@
 //! The commissioning of one inverter.
-ghost use Rattle.std.specs.Prelude.{◌≡◌, ◌+◌, ◌≤◌, ◌<◌, ◌↔◌, length, option_map, IfSome, IsSome, IsNone};
+ghost use Rattle.std.specs.Prelude.{◌≡◌, ◌≢◌, ◌+◌, ◌≤◌, ◌<◌, ◌↔◌, Ok, OnErr, length, option_map, IfSome, IsSome, IsNone};
 ghost use Rattle.model_discovery.specs.Walking.{next_read};
 ghost use Rattle.readback.specs.Frames.{limit_pdu};
 ghost use Rattle.commissioning.specs.Asking.{wanted_pdu, request_frame};
@@ -109,6 +109,14 @@ impl Commission {
         requires { IsSome (asked self.old) }
         ensures step { self.new ≡ taken self.old frame.now }
         ensures answer { result ≡ answer self.old frame.now }
+
+        // A frame of another transaction number is skipped, seven at most for each request.
+        ensures skipped { (result ≡ Ok Took.Skipped) ↔ ((frame.now.transaction ≢ self.old.number) × (self.old.skipped < 7)) }
+
+        // After a fault nothing is asked any more.
+        ensures over { OnErr result (IsOver self.new.stage) }
+
+        // Each frame leaves fewer that may come.
         ensures ends { frames_left self.new < frames_left self.old }
     {
         if frame.transaction != self.number && self.skipped < SKIPPED_MAX {

@@ -1,17 +1,20 @@
 //! Laws of whole commissionings: of any list of frames that one is handed.
-ghost use Rattle.std.specs.Prelude.{◌≡◌, ◌+◌, List, [], ◌∷◌, ◌++◌, length, map};
+ghost use Rattle.std.specs.Prelude.{◌≡◌, ◌+◌, List, [], ◌∷◌, ◌++◌, length, IsSome};
 ghost use Rattle.mbap_frames.specs.declared.frame.Frame.{Frame};
 ghost use Rattle.commissioning.specs.declared.found.Record702.{Record702};
 ghost use Rattle.commissioning.specs.declared.target.Target.{Target};
 ghost use Rattle.commissioning.specs.Stage.{Stage, Commissioned};
-ghost use Rattle.commissioning.specs.Runs.{Exchange, after, standing_after, exchanges, requests, request_by, AreNumbered};
+ghost use Rattle.commissioning.specs.Asking.{asked};
+ghost use Rattle.commissioning.specs.Taking.{taken};
+ghost use Rattle.commissioning.specs.Runs.{Exchange, standing_after, exchanges, requests, request_by, AreNumbered};
 ghost use Rattle.commissioning.specs.Passed.{Passed, Reached, IsCommissioned, IsAt};
 
-/// What one frame more makes of a commissioning and of the requests that it has asked.
+/// What one frame more makes of a commissioning, and which request it leads to. So a caller that hands a `Commission` the frames of a
+/// link knows which requests it has asked, and in which order.
 pub fn one_frame_more()
-    ensures standing { (target : Target) (frames : List Frame) (frame : Frame)
-        → standing_after target (frames ++ frame ∷ []) ≡ after (standing_after target frames) frame }
-    ensures requests { (target : Target) (frames : List Frame) (frame : Frame)
+    ensures standing { (target : Target) (frames : List Frame) (frame : Frame) → IsSome (asked (standing_after target frames))
+        → standing_after target (frames ++ frame ∷ []) ≡ taken (standing_after target frames) frame }
+    ensures requests { (target : Target) (frames : List Frame) (frame : Frame) → IsSome (asked (standing_after target frames))
         → requests target (frames ++ frame ∷ []) ≡ requests target frames ++ request_by (standing_after target frames) frame }
 {}
 
