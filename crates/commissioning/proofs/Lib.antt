@@ -1,0 +1,4 @@
+pub mod Fewer
+pub mod Moves
+pub mod Passing
+pub mod Leading

@@ -1,0 +1,2 @@
+pub mod Grammatical
+pub mod Written
