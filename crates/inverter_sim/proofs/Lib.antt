@@ -1,0 +1,4 @@
+pub mod Times
+pub mod Blocks
+pub mod Outside
+pub mod Holding

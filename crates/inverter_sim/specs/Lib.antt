@@ -1,0 +1,4 @@
+pub mod Bank
+pub mod RegisterMap
+pub mod Replies
+pub mod Calls

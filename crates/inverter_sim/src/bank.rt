@@ -1,0 +1,303 @@
+//! The bank of registers of a simulated inverter.
+ghost use Rattle.std.specs.Prelude.{◌≡◌, ◌≤◌, ◌==◌, length, find};
+ghost use Rattle.std.specs.Int.{w16, cast_unsigned};
+ghost use Rattle.limiter_num.specs.Timers.{tmin, tmax};
+ghost use Rattle.modbus_pdu.specs.Grammar.{IsReadCount, HasReplyForm};
+ghost use Rattle.inverter_sim.specs.Bank.{BankRecord, IsBank, new_bank, bank_at, held_at};
+ghost use Rattle.inverter_sim.specs.RegisterMap.{seconds_left, high, low, contents, register_by};
+ghost use Rattle.inverter_sim.specs.Replies.{HasReadCount, sets_limit, reply_to, limit_taken, holding, reply_of, state_after};
+
+use der_models::limit_block;
+use der_models::offsets::{
+    M701_INV_ST, M701_W, M701_W_SF, M702_W_MAX, M702_W_SF, M703_ES, M704_W_MAX_LIM_PCT_ENA,
+    M704_W_MAX_LIM_PCT_SF,
+};
+use limiter_num::{MOMENT_MAX, Rules};
+use modbus_pdu::{READ_REGISTERS, Regs, Reply, Request, WRITE_REGISTERS};
+use plant_book::Unit;
+use std::marker::Model;
+
+/// The address of the mark 'SunS', with which the map begins.
+const MARK: u16 = 40_000;
+
+/// The addresses of the models' identifiers, and of the end behind them.
+const M1: u16 = 40_002;
+
+const M701: u16 = 40_070;
+
+const M702: u16 = 40_225;
+
+const M703: u16 = 40_277;
+
+const M704: u16 = 40_296;
+
+const END: u16 = 40_363;
+
+/// The address behind the last register of the map.
+const MAP_END: u32 = 40_365;
+
+/// The address of WMaxLimPctEna, the first of the six registers that set a limit.
+const LIMIT: u16 = M704 + M704_W_MAX_LIM_PCT_ENA as u16;
+
+/// How many registers a write of a limit has.
+const LIMIT_REGISTERS: u16 = 6;
+
+/// The exception codes for an illegal address and an illegal value (Modbus Application Protocol V1.1b3, section 7).
+const ILLEGAL_DATA_ADDRESS: u8 = 2;
+
+const ILLEGAL_DATA_VALUE: u8 = 3;
+
+/// A simulated inverter: it answers reads of its register map, and holds the limit of a write that it takes for a
+/// fixed time, after which it goes back to its floor.
+#[derive(Debug, Drop)]
+pub struct Bank {
+    unit: Unit,
+    rules: Rules,
+    number: u8,
+    after: u64,
+    /// The limit that is held, as a raw percentage.
+    raw: u16,
+    /// The moment in ms at which it reverts to the floor.
+    revert: Option<u64>,
+    /// The last moment of a call, in ms.
+    last: u64,
+}
+
+impl Model for Bank {
+    ghost use Rattle.inverter_sim.specs.Bank.{BankRecord, IsBank};
+
+    ghost Value = { BankRecord };
+
+    ghost view = { λ bank. record {
+      unit = bank.unit;
+      rules = bank.rules;
+      number = bank.number;
+      after = bank.after;
+      raw = bank.raw;
+      revert = bank.revert;
+      last = bank.last;
+    } };
+
+    ghost invariant = { λ bank. IsBank (record {
+      unit = bank.unit;
+      rules = bank.rules;
+      number = bank.number;
+      after = bank.after;
+      raw = bank.raw;
+      revert = bank.revert;
+      last = bank.last;
+    }) };
+}
+
+impl Bank {
+    /// An inverter of this rating and floor, with the timer of the rules. It answers to the unit number `number`, and a
+    /// limit that it takes is held for `after` ms. It begins at its floor.
+    pub fn new(unit: Unit, rules: Rules, number: u8, after: u64) -> Bank
+        requires after_low { tmin rules ≤ after }
+        requires after_high { after ≤ tmax rules }
+        ensures made { result ≡ new_bank unit rules number after }
+        ensures kept { IsBank result }
+    {
+        Bank {
+            unit,
+            rules,
+            number,
+            after,
+            raw: unit.floor,
+            revert: None,
+            last: 0,
+        }
+    }
+
+    /// Answers a request at a moment in ms, as the inverter does.
+    pub fn reply(&mut self, now: u64, request: &Request) -> Reply
+        requires in_order { self.old.last ≤ now }
+        requires moment { now ≤ MOMENT_MAX }
+        requires count { HasReadCount request.now }
+        ensures reply { result ≡ reply_of self.old now request.now }
+        ensures state { self.new ≡ state_after self.old now request.now }
+        ensures spelled { HasReplyForm result }
+        ensures kept { IsBank self.new }
+    {
+        self.pass(now);
+        match request {
+            Request::ReadRegs { start, count } => self.read(*start, *count),
+            Request::WriteRegs { start, values } => self.write(*start, values.as_slice()),
+        }
+    }
+
+    /// The limit that the inverter holds at a moment in ms, as a raw percentage.
+    pub fn held(&mut self, now: u64) -> u16
+        requires in_order { self.old.last ≤ now }
+        requires moment { now ≤ MOMENT_MAX }
+        ensures raw { result ≡ held_at now self.old }
+        ensures state { self.new ≡ bank_at now self.old }
+        ensures kept { IsBank self.new }
+    {
+        self.pass(now);
+        self.raw
+    }
+
+    /// The unit number that the inverter answers to.
+    pub fn number(&self) -> u8
+        ensures { result ≡ self.now.number }
+    {
+        self.number
+    }
+
+    /// Lets the time pass up to a moment in ms.
+    fn pass(&mut self, now: u64)
+        requires in_order { self.old.last ≤ now }
+        requires moment { now ≤ MOMENT_MAX }
+        ensures state { self.new ≡ bank_at now self.old }
+        ensures kept { IsBank self.new }
+    {
+        if self.revert.is_some_and(|moment| moment <= now) {
+            self.raw = self.unit.floor;
+            self.revert = None;
+        }
+        self.last = now;
+    }
+
+    /// Answers a read at the last moment.
+    fn read(&self, start: u16, count: u16) -> Reply
+        requires { IsReadCount count }
+        ensures { result ≡ reply_to self.now (Request.ReadRegs start count) }
+    {
+        if start < MARK || u32::from(start) + u32::from(count) > MAP_END {
+            return Reply::Exception {
+                function: READ_REGISTERS,
+                code: ILLEGAL_DATA_ADDRESS,
+            };
+        }
+        let contents = self.contents();
+        let mut values = Regs::new();
+        for address in start..start + count {
+            values.push(register_by(&contents, address));
+        }
+        Reply::Regs(values)
+    }
+
+    /// Answers a write at the last moment, and holds its limit where it is one that the inverter takes.
+    fn write(&mut self, start: u16, values: &[u16]) -> Reply
+        requires { IsBank self.old }
+        ensures reply { result ≡ reply_to self.old (Request.WriteRegs start values.now) }
+        ensures state { self.new ≡ holding self.old (limit_taken self.old.unit self.old.rules (Request.WriteRegs start values.now)) }
+        ensures kept { IsBank self.new }
+    {
+        let refused = |code| Reply::Exception {
+            function: WRITE_REGISTERS,
+            code,
+        };
+        if start != LIMIT || values.len() != usize::from(LIMIT_REGISTERS) {
+            return refused(ILLEGAL_DATA_ADDRESS);
+        }
+        if !self.takes(values) {
+            return refused(ILLEGAL_DATA_VALUE);
+        }
+        self.raw = values[1];
+        self.revert = Some(self.last + self.after);
+        Reply::Wrote {
+            start,
+            count: LIMIT_REGISTERS,
+        }
+    }
+
+    /// Whether six registers from WMaxLimPctEna on set a limit that the inverter takes.
+    fn takes(&self, values: &[u16]) -> bool
+        requires { length values.now ≡ 6 }
+        ensures { result ≡ sets_limit self.now.unit self.now.rules values.now }
+    {
+        let raw = values[1];
+        let block = limit_block(raw, self.unit.floor, self.rules.timer);
+        raw <= self.unit.rating.full() && values == block.as_slice()
+    }
+
+    #[tactic(auto, unfolding(crate::specs::RegisterMap::contents))]
+    /// The registers of the map that have a name, each with its address. All others are 0.
+    fn contents(&self) -> [(u16, u16); 29]
+        ensures { result ≡ contents self.now }
+    {
+        let rating = &self.unit.rating;
+        let (wsf, psf) = (scale(rating.wsf), scale(rating.psf));
+        let [ena, pct, pct_rvrt, ena_rvrt, tms_high, tms_low] = limit_block(
+            self.raw,
+            self.unit.floor,
+            self.rules.timer,
+        );
+        let (rem_high, rem_low) = halves(self.seconds_left());
+        [
+            (MARK, 0x5375),
+            (MARK + 1, 0x6E53),
+            (M1, 1),
+            (M1 + 1, 66),
+            (M701, 701),
+            (M701 + 1, 153),
+            (M701 + M701_INV_ST as u16, 0),
+            (M701 + M701_W as u16, 0),
+            (M701 + M701_W_SF as u16, wsf),
+            (M702, 702),
+            (M702 + 1, 50),
+            (M702 + M702_W_MAX as u16, rating.wmax),
+            (M702 + M702_W_SF as u16, wsf),
+            (M703, 703),
+            (M703 + 1, 17),
+            (M703 + M703_ES as u16, 1),
+            (M704, 704),
+            (M704 + 1, 65),
+            (LIMIT, ena),
+            (LIMIT + 1, pct),
+            (LIMIT + 2, pct_rvrt),
+            (LIMIT + 3, ena_rvrt),
+            (LIMIT + 4, tms_high),
+            (LIMIT + 5, tms_low),
+            (LIMIT + 6, rem_high),
+            (LIMIT + 7, rem_low),
+            (M704 + M704_W_MAX_LIM_PCT_SF as u16, psf),
+            (END, 0xFFFF),
+            (END + 1, 0),
+        ]
+    }
+
+    /// The seconds until the revert, rounded up, or 0 where none is due.
+    fn seconds_left(&self) -> u32
+        ensures { result ≡ seconds_left self.now.last self.now.revert }
+    {
+        match self.revert {
+            Some(moment) => (moment - self.last).div_ceil(1000) as u32,
+            None => 0,
+        }
+    }
+}
+
+/// The register at an address, by those that have a name. Any other is 0.
+fn register_by(names: &[(u16, u16)], address: u16) -> u16
+    ensures { result ≡ register_by names.now address }
+{
+    match named_at(names, address) {
+        Some((_, register)) => register,
+        None => 0,
+    }
+}
+
+/// The first of these registers that has the address.
+fn named_at(names: &[(u16, u16)], address: u16) -> Option<(u16, u16)>
+    ensures { result ≡ find (λ named. named.0 == address) names.now }
+{
+    names.iter().copied().find(|named| named.0 == address)
+}
+
+/// The register of a scale factor.
+fn scale(factor: i8) -> u16
+    ensures { result ≡ cast_unsigned w16 factor }
+{
+    i16::from(factor).cast_unsigned()
+}
+
+/// The two registers of a number, of which the first is the high one.
+fn halves(number: u32) -> (u16, u16)
+    ensures high { result.0 ≡ high number }
+    ensures low { result.1 ≡ low number }
+{
+    ((number / 0x1_0000) as u16, (number % 0x1_0000) as u16)
+}
