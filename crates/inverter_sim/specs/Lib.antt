@@ -2,3 +2,4 @@ pub mod Bank
 pub mod RegisterMap
 pub mod Replies
 pub mod Calls
+pub mod Arrivals

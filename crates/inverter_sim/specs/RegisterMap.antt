@@ -16,10 +16,11 @@ high number = number / 65536
 abbrev pub low : ℕ → ℕ
 low number = number % 65536
 
--- the registers of a model, each with its address: the identifier at the start, the length behind it, and points by
--- their offsets from the start
+-- the registers of a model, each with its address: the identifier at the start, the length behind it, and
+-- points by their offsets from the start
 abbrev pub model : (start id length : ℕ) → List (ℕ × ℕ) → List (ℕ × ℕ)
-model start id length points = (start, id) ∷ (start + 1, length) ∷ map (λ point. (start + point.0, point.1)) points
+model start id length points =
+    (start, id) ∷ (start + 1, length) ∷ map (λ point. (start + point.0, point.1)) points
 
 -- 701: InvSt 0, W 0, W_SF
 abbrev pub points_701 : BankRecord → List (ℕ × ℕ)
@@ -33,8 +34,8 @@ points_702 bank = (26, bank.unit.rating.wmax) ∷ (45, cast_unsigned w16 bank.un
 abbrev pub points_703 : BankRecord → List (ℕ × ℕ)
 points_703 bank = (2, 1) ∷ []
 
--- 704: WMaxLimPctEna 1, WMaxLimPct, WMaxLimPctRvrt, WMaxLimPctEnaRvrt 1, WMaxLimPctRvrtTms, WMaxLimPctRvrtRem,
--- WMaxLimPct_SF
+-- 704: WMaxLimPctEna 1, WMaxLimPct, WMaxLimPctRvrt, WMaxLimPctEnaRvrt 1, WMaxLimPctRvrtTms,
+-- WMaxLimPctRvrtRem, WMaxLimPct_SF
 abbrev pub points_704 : BankRecord → List (ℕ × ℕ)
 points_704 bank =
     (14, 1)

@@ -1,12 +1,12 @@
 //! The bank of registers of a simulated inverter.
-ghost use Rattle.std.specs.Prelude.{◌≡◌, ◌≤◌, ◌==◌, length, find};
-ghost use Rattle.std.specs.Int.{w16, cast_unsigned};
+ghost use Rattle.std.specs.Prelude.{◌≡◌, ◌≤◌, length};
 ghost use Rattle.limiter_num.specs.Timers.{tmin, tmax};
 ghost use Rattle.modbus_pdu.specs.Grammar.{IsReadCount, HasReplyForm};
-ghost use Rattle.inverter_sim.specs.Bank.{BankRecord, IsBank, new_bank, bank_at, held_at};
-ghost use Rattle.inverter_sim.specs.RegisterMap.{seconds_left, high, low, contents, register_by};
-ghost use Rattle.inverter_sim.specs.Replies.{HasReadCount, sets_limit, reply_to, limit_taken, holding, reply_of, state_after};
+ghost use Rattle.inverter_sim.specs.Bank.{IsBank, IsSameInverter, new_bank, bank_at, held_at};
+ghost use Rattle.inverter_sim.specs.RegisterMap.{seconds_left, contents};
+ghost use Rattle.inverter_sim.specs.Replies.{HasReadCount, sets_limit, reply_to, taken_limit, with_limit, reply_of, state_after};
 
+use crate::registers::{halves, register_by, scale};
 use der_models::limit_block;
 use der_models::offsets::{
     M701_INV_ST, M701_W, M701_W_SF, M702_W_MAX, M702_W_SF, M703_ES, M704_W_MAX_LIM_PCT_ENA,
@@ -42,13 +42,15 @@ const LIMIT: u16 = M704 + M704_W_MAX_LIM_PCT_ENA as u16;
 /// How many registers a write of a limit has.
 const LIMIT_REGISTERS: u16 = 6;
 
-/// The exception codes for an illegal address and an illegal value (Modbus Application Protocol V1.1b3, section 7).
+/// The exception code for an address that isn't there (Modbus Application Protocol V1.1b3, section 7).
 const ILLEGAL_DATA_ADDRESS: u8 = 2;
 
+/// The exception code for a value that isn't taken (section 7).
 const ILLEGAL_DATA_VALUE: u8 = 3;
 
-/// A simulated inverter: it answers reads of its register map, and holds the limit of a write that it takes for a
-/// fixed time, after which it goes back to its floor.
+/// A simulated inverter: it answers reads of its register map, and holds the limit of a write that it takes
+/// for a time of its own, after which it goes back to its floor. The map is after the SunSpec DER models 701
+/// to 704.
 #[derive(Debug, Drop)]
 pub struct Bank {
     unit: Unit,
@@ -90,8 +92,8 @@ impl Model for Bank {
 }
 
 impl Bank {
-    /// An inverter of this rating and floor, with the timer of the rules. It answers to the unit number `number`, and a
-    /// limit that it takes is held for `after` ms. It begins at its floor.
+    /// An inverter of this rating and floor, with the timer of the rules. It answers to the unit number
+    /// `number`, and holds a limit that it takes for `after` ms.
     pub fn new(unit: Unit, rules: Rules, number: u8, after: u64) -> Bank
         requires after_low { tmin rules ≤ after }
         requires after_high { after ≤ tmax rules }
@@ -117,6 +119,10 @@ impl Bank {
         ensures reply { result ≡ reply_of self.old now request.now }
         ensures state { self.new ≡ state_after self.old now request.now }
         ensures spelled { HasReplyForm result }
+
+        // It is the same inverter as before, at this moment.
+        ensures same { IsSameInverter self.old self.new }
+        ensures time { self.new.last ≡ now }
         ensures kept { IsBank self.new }
     {
         self.pass(now);
@@ -132,6 +138,10 @@ impl Bank {
         requires moment { now ≤ MOMENT_MAX }
         ensures raw { result ≡ held_at now self.old }
         ensures state { self.new ≡ bank_at now self.old }
+
+        // It is the same inverter as before, at this moment.
+        ensures same { IsSameInverter self.old self.new }
+        ensures time { self.new.last ≡ now }
         ensures kept { IsBank self.new }
     {
         self.pass(now);
@@ -182,7 +192,8 @@ impl Bank {
     fn write(&mut self, start: u16, values: &[u16]) -> Reply
         requires { IsBank self.old }
         ensures reply { result ≡ reply_to self.old (Request.WriteRegs start values.now) }
-        ensures state { self.new ≡ holding self.old (limit_taken self.old.unit self.old.rules (Request.WriteRegs start values.now)) }
+        ensures state { let request = Request.WriteRegs start values.now in
+            self.new ≡ with_limit self.old (taken_limit self.old.unit self.old.rules request) }
         ensures kept { IsBank self.new }
     {
         let refused = |code| Reply::Exception {
@@ -213,8 +224,8 @@ impl Bank {
         raw <= self.unit.rating.full() && values == block.as_slice()
     }
 
-    #[tactic(auto, unfolding(crate::specs::RegisterMap::contents))]
     /// The registers of the map that have a name, each with its address. All others are 0.
+    #[tactic(auto, unfolding(crate::specs::RegisterMap::contents))]
     fn contents(&self) -> [(u16, u16); 29]
         ensures { result ≡ contents self.now }
     {
@@ -268,36 +279,4 @@ impl Bank {
             None => 0,
         }
     }
-}
-
-/// The register at an address, by those that have a name. Any other is 0.
-fn register_by(names: &[(u16, u16)], address: u16) -> u16
-    ensures { result ≡ register_by names.now address }
-{
-    match named_at(names, address) {
-        Some((_, register)) => register,
-        None => 0,
-    }
-}
-
-/// The first of these registers that has the address.
-fn named_at(names: &[(u16, u16)], address: u16) -> Option<(u16, u16)>
-    ensures { result ≡ find (λ named. named.0 == address) names.now }
-{
-    names.iter().copied().find(|named| named.0 == address)
-}
-
-/// The register of a scale factor.
-fn scale(factor: i8) -> u16
-    ensures { result ≡ cast_unsigned w16 factor }
-{
-    i16::from(factor).cast_unsigned()
-}
-
-/// The two registers of a number, of which the first is the high one.
-fn halves(number: u32) -> (u16, u16)
-    ensures high { result.0 ≡ high number }
-    ensures low { result.1 ≡ low number }
-{
-    ((number / 0x1_0000) as u16, (number % 0x1_0000) as u16)
 }

@@ -1,4 +1,4 @@
-use Rattle.std.proofs.Common.{◌≡◌, ◌+◌, Bool, true, false, leb, arith, ap}
+use Rattle.std.proofs.Common.{◌≡◌, ◌+◌, true, false, leb, arith, ap}
 use Rattle.std.proofs.lemmas.Bool.Decides.{nat_tests}
 use Rattle.inverter_sim.specs.Bank.{BankRecord}
 use Rattle.inverter_sim.proofs.Holding.{held_since, nothing_else}

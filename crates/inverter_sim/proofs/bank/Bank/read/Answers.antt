@@ -1,7 +1,6 @@
-use Rattle.std.proofs.Common.{◌≡◌, ◌+◌, ◌-◌, ◌≤◌, ◌<◌, ◌++◌, ◌∷◌, [], map, length, arith, ap, sym, ◌∙◌}
-use Rattle.std.specs.List.{range_with_len}
+use Rattle.std.proofs.Common.{◌≡◌, ◌+◌, ◌-◌, length, arith, ap, ◌∙◌}
 use Rattle.std.proofs.lemmas.List.FromFn.{length-map-range_with_len, map-range_with_len_more}
-use Rattle.inverter_sim.specs.RegisterMap.{register, register_by}
+use Rattle.inverter_sim.specs.RegisterMap.{register}
 use Rattle.inverter_sim.proofs.Outside.{none_outside, one_below, one_above}
 use Rattle.inverter_sim.proofs.bank.Bank.read.Goals as goal
 use Rattle.inverter_sim.proofs.bank.Bank.read.Goals.{then-start-lt-MARK-via-then-start-lt-MARK, then-start-lt-MARK-via-else-start-lt-MARK+then-from-gt-MAP_END}

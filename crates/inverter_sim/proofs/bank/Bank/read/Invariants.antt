@@ -1,6 +1,6 @@
 use Rattle.std.proofs.Common.{◌≡◌, ◌-◌, map}
 use Rattle.std.specs.List.{range_with_len}
-use Rattle.inverter_sim.specs.RegisterMap.{register, register_by}
+use Rattle.inverter_sim.specs.RegisterMap.{register}
 use Rattle.inverter_sim.proofs.bank.Bank.read.Given as goal
 
 -- the registers so far
