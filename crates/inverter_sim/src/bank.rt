@@ -206,8 +206,9 @@ impl Bank {
         if !self.takes(values) {
             return refused(ILLEGAL_DATA_VALUE);
         }
+        let until = self.last + self.after;
         self.raw = values[1];
-        self.revert = Some(self.last + self.after);
+        self.revert = Some(until);
         Reply::Wrote {
             start,
             count: LIMIT_REGISTERS,
@@ -220,8 +221,9 @@ impl Bank {
         ensures { result ≡ sets_limit self.now.unit self.now.rules values.now }
     {
         let raw = values[1];
+        let full = self.unit.rating.full();
         let block = limit_block(raw, self.unit.floor, self.rules.timer);
-        raw <= self.unit.rating.full() && values == block.as_slice()
+        raw <= full && values == block.as_slice()
     }
 
     /// The registers of the map that have a name, each with its address. All others are 0.

@@ -3,8 +3,8 @@ use Rattle.inverter_sim.proofs.Times.{tmax_below}
 use Rattle.inverter_sim.proofs.Blocks.{raw_within}
 use Rattle.inverter_sim.proofs.bank.Bank.write.Goals as goal
 
-pub overflow_add-self : goal.overflow_add-self
-overflow_add-self c = record { fits = omega (arith, tmax_below c.self.inside.rules) }
+pub overflow_add-until : goal.overflow_add-until
+overflow_add-until c = record { fits = omega (arith, tmax_below c.self.inside.rules) }
 
 pub invariant_of-self : goal.invariant_of-self
 invariant_of-self c =
