@@ -20,24 +20,29 @@ use std::marker::Model;
 /// The address of the mark 'SunS', with which the map begins.
 const MARK: u16 = 40_000;
 
-/// The addresses of the models' identifiers, and of the end behind them.
-const M1: u16 = 40_002;
+/// The address of the identifier of model 1, which comes first.
+const MODEL_1: u16 = 40_002;
 
-const M701: u16 = 40_070;
+/// The address of the identifier of model 701.
+const MODEL_701: u16 = 40_070;
 
-const M702: u16 = 40_225;
+/// The address of the identifier of model 702.
+const MODEL_702: u16 = 40_225;
 
-const M703: u16 = 40_277;
+/// The address of the identifier of model 703.
+const MODEL_703: u16 = 40_277;
 
-const M704: u16 = 40_296;
+/// The address of the identifier of model 704.
+const MODEL_704: u16 = 40_296;
 
+/// The address of the identifier that ends the chain of models.
 const END: u16 = 40_363;
 
 /// The address behind the last register of the map.
 const MAP_END: u32 = 40_365;
 
 /// The address of WMaxLimPctEna, the first of the six registers that set a limit.
-const LIMIT: u16 = M704 + M704_W_MAX_LIM_PCT_ENA as u16;
+const LIMIT_BLOCK: u16 = MODEL_704 + M704_W_MAX_LIM_PCT_ENA as u16;
 
 /// How many registers a write of a limit has.
 const LIMIT_REGISTERS: u16 = 6;
@@ -200,7 +205,7 @@ impl Bank {
             function: WRITE_REGISTERS,
             code,
         };
-        if start != LIMIT || values.len() != usize::from(LIMIT_REGISTERS) {
+        if start != LIMIT_BLOCK || values.len() != usize::from(LIMIT_REGISTERS) {
             return refused(ILLEGAL_DATA_ADDRESS);
         }
         if !self.takes(values) {
@@ -242,31 +247,31 @@ impl Bank {
         [
             (MARK, 0x5375),
             (MARK + 1, 0x6E53),
-            (M1, 1),
-            (M1 + 1, 66),
-            (M701, 701),
-            (M701 + 1, 153),
-            (M701 + M701_INV_ST as u16, 0),
-            (M701 + M701_W as u16, 0),
-            (M701 + M701_W_SF as u16, wsf),
-            (M702, 702),
-            (M702 + 1, 50),
-            (M702 + M702_W_MAX as u16, rating.wmax),
-            (M702 + M702_W_SF as u16, wsf),
-            (M703, 703),
-            (M703 + 1, 17),
-            (M703 + M703_ES as u16, 1),
-            (M704, 704),
-            (M704 + 1, 65),
-            (LIMIT, ena),
-            (LIMIT + 1, pct),
-            (LIMIT + 2, pct_rvrt),
-            (LIMIT + 3, ena_rvrt),
-            (LIMIT + 4, tms_high),
-            (LIMIT + 5, tms_low),
-            (LIMIT + 6, rem_high),
-            (LIMIT + 7, rem_low),
-            (M704 + M704_W_MAX_LIM_PCT_SF as u16, psf),
+            (MODEL_1, 1),
+            (MODEL_1 + 1, 66),
+            (MODEL_701, 701),
+            (MODEL_701 + 1, 153),
+            (MODEL_701 + M701_INV_ST as u16, 0),
+            (MODEL_701 + M701_W as u16, 0),
+            (MODEL_701 + M701_W_SF as u16, wsf),
+            (MODEL_702, 702),
+            (MODEL_702 + 1, 50),
+            (MODEL_702 + M702_W_MAX as u16, rating.wmax),
+            (MODEL_702 + M702_W_SF as u16, wsf),
+            (MODEL_703, 703),
+            (MODEL_703 + 1, 17),
+            (MODEL_703 + M703_ES as u16, 1),
+            (MODEL_704, 704),
+            (MODEL_704 + 1, 65),
+            (LIMIT_BLOCK, ena),
+            (LIMIT_BLOCK + 1, pct),
+            (LIMIT_BLOCK + 2, pct_rvrt),
+            (LIMIT_BLOCK + 3, ena_rvrt),
+            (LIMIT_BLOCK + 4, tms_high),
+            (LIMIT_BLOCK + 5, tms_low),
+            (LIMIT_BLOCK + 6, rem_high),
+            (LIMIT_BLOCK + 7, rem_low),
+            (MODEL_704 + M704_W_MAX_LIM_PCT_SF as u16, psf),
             (END, 0xFFFF),
             (END + 1, 0),
         ]

@@ -71,8 +71,9 @@ fn requests_and_their_replies(rt: HostRuntime) -> Result<(), Fail> {
         (0, read(40_364, 2), refused(3, 2)),
         (0, read(39_999, 2), refused(3, 2)),
         (0, read(65_535, 125), refused(3, 2)),
-        // WMax, the power of ten of the limit, and whether service may be entered.
+        // WMax and its power of ten, that of the limit, and whether service may be entered.
         (0, read(40_250, 2), shown(&[0, 6_000])),
+        (0, read(40_270, 2), shown(&[0, 0])),
         (0, read(40_350, 2), shown(&[0xFFFF, 0])),
         (0, read(40_279, 2), shown(&[1, 0])),
         // The floor, and a limit that is taken, with the seconds that are left.
