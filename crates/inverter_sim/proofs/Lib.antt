@@ -1,0 +1,7 @@
+pub mod Times
+pub mod Blocks
+pub mod Outside
+pub mod Holding
+pub mod Limits
+pub mod Following
+pub mod Ordering

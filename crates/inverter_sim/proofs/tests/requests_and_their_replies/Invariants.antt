@@ -1,0 +1,6 @@
+use Rattle.std.proofs.Common.{◌≡◌}
+use Rattle.inverter_sim.proofs.tests.requests_and_their_replies.Given as goal
+
+-- the moment of the last call
+abbrev pub invariant-loop-now : goal.invariant-loop-now
+invariant-loop-now g l = l.bank.last ≡ l.last

@@ -1,0 +1,5 @@
+pub mod Bank
+pub mod RegisterMap
+pub mod Replies
+pub mod Calls
+pub mod Arrivals

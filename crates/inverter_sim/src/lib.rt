@@ -1,0 +1,16 @@
+//! A simulated inverter, by the registers that it shows and by the limit that it holds.
+//!
+//! The layers above rely on `specs/Replies.antt`, by which a `Bank` answers each request and takes a limit,
+//! and on `takes_are_held`: a write that it takes is held until the bank's time has passed, unless it takes
+//! another before. `banks_follow_the_timed_device` says the same in the words of the timed device.
+#![tactic(auto)]
+
+mod bank;
+mod laws;
+mod registers;
+
+pub use bank::Bank;
+pub use laws::{banks_follow_the_timed_device, limits_are_taken_and_shown, takes_are_held};
+
+#[cfg(test)]
+mod tests;
