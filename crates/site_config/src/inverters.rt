@@ -15,6 +15,10 @@ use plant_book::{Port, Unit};
 use std::alloc::{AllocError, Global};
 use toml::{Table, Value};
 
+/// The greatest address of the register that identifies model 704: the registers that are written and read there
+/// go up to the 21st behind it, and the last address is 65,535.
+const BASE_MAX: u64 = 65_514;
+
 /// What the table of an inverter says.
 #[derive(Drop)]
 pub struct Inverter {
@@ -55,9 +59,9 @@ fn read_port(table: &Table, number: u32) -> Result<Port, SiteFault>
         inverter: Some(number),
     };
     let host = read_host(&fields)?;
-    let port = fields.number(Key::Port, 1, 65_535)? as u16;
-    let unit = fields.number(Key::Unit, 0, 255)? as u8;
-    let base = fields.number(Key::Base, 0, 65_514)? as u16;
+    let port = fields.number(Key::Port, 1, u64::from(u16::MAX))? as u16;
+    let unit = fields.number(Key::Unit, 0, u64::from(u8::MAX))? as u8;
+    let base = fields.number(Key::Base, 0, BASE_MAX)? as u16;
     Ok(Port {
         host,
         port,
@@ -76,10 +80,10 @@ fn read_points(table: &Table, number: u32) -> Result<Points, SiteFault>
         table,
         inverter: Some(number),
     };
-    let wmax = fields.number(Key::Wmax, 0, 65_535)? as u16;
-    let wsf = fields.integer(Key::Wsf, -32_768, 32_767)? as i16;
-    let psf = fields.integer(Key::Psf, -32_768, 32_767)? as i16;
-    let floor = fields.number(Key::Floor, 0, 65_535)? as u16;
+    let wmax = fields.number(Key::Wmax, 0, u64::from(u16::MAX))? as u16;
+    let wsf = fields.integer(Key::Wsf, i64::from(i16::MIN), i64::from(i16::MAX))? as i16;
+    let psf = fields.integer(Key::Psf, i64::from(i16::MIN), i64::from(i16::MAX))? as i16;
+    let floor = fields.number(Key::Floor, 0, u64::from(u16::MAX))? as u16;
     Ok(Points {
         wmax,
         wsf,

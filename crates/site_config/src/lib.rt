@@ -18,3 +18,6 @@ pub use fault::{SiteError, SiteFault};
 pub use key::Key;
 pub use site_file::{SITE_BYTES_MAX, SiteFile, site_of};
 pub use summary::summary_text;
+
+#[cfg(test)]
+mod tests;

@@ -10,8 +10,17 @@ use crate::fields::Fields;
 use crate::key::Key;
 use crate::tables::read_tables;
 use limiter_num::Rules;
-use plant_book::Policy;
+use plant_book::{CAP_MAX, Policy, ROOM_MAX};
 use toml::Value;
+
+/// The greatest time in ms after which a limit is written anew: a day.
+const RENEW_MAX: u64 = 86_400_000;
+
+/// The greatest pause between two turns of a worker, in ms.
+const PAUSE_MAX: u64 = 600_000;
+
+/// The greatest time for which a reply is waited for, in ms.
+const WAIT_MAX: u64 = 60_000;
 
 /// How the workers of the inverters go about, in ms.
 #[derive(Clone, Copy)]
@@ -38,7 +47,7 @@ pub struct Settings<'a> {
     pub inverters: &'a [Value],
 }
 
-/// The rules, of which each number is in its range.
+/// The rules: the ranges are those of `Rules`.
 fn read_rules(fields: &Fields) -> Result<Rules, SiteFault>
     requires { fields.now.inverter ≡ None }
     ensures fault { MatchResult result
@@ -67,9 +76,9 @@ fn read_pace(fields: &Fields) -> Result<Pace, SiteFault>
         (λ fault. first_fault (pace_checks (table_view fields.now.table.now)) ≡ Some fault) }
     ensures pace { IfOk result (HasPace (table_view fields.now.table.now)) }
 {
-    let renew = fields.number(Key::Renew, 1, 86_400_000)? as u32;
-    let pause = fields.number(Key::Pause, 0, 600_000)? as u32;
-    let wait = fields.number(Key::Wait, 1, 60_000)? as u32;
+    let renew = fields.number(Key::Renew, 1, RENEW_MAX)? as u32;
+    let pause = fields.number(Key::Pause, 0, PAUSE_MAX)? as u32;
+    let wait = fields.number(Key::Wait, 1, WAIT_MAX)? as u32;
     Ok(Pace { renew, pause, wait })
 }
 
@@ -111,10 +120,10 @@ pub fn read_settings<'a>(fields: &Fields<'a>) -> Result<Settings<'a>, SiteFault>
         (λ fault. first_fault (site_checks (table_view fields.now.table.now)) ≡ Some fault) }
     ensures settings { IfOk result (HasSettings (table_view fields.now.table.now)) }
 {
-    let cap = fields.number(Key::Cap, 0, 100_000_000_000_000)?;
+    let cap = fields.number(Key::Cap, 0, CAP_MAX)?;
     let rules = read_rules(fields)?;
     let pace = read_pace(fields)?;
-    let room = fields.number(Key::Book, 1, 1_048_576)? as u32;
+    let room = fields.number(Key::Book, 1, u64::from(ROOM_MAX))? as u32;
     let policy = read_policy(fields)?;
     let inverters = read_tables(fields)?;
     Ok(Settings {
