@@ -1,0 +1,10 @@
+pub mod InverterTables
+pub mod FirstFaults
+pub mod ReadInverters
+pub mod ReadUnits
+pub mod WholeTable
+pub mod MadeFile
+pub mod Causes
+pub mod Weights
+pub mod Consumption
+pub mod InverterLines
