@@ -1,0 +1,5 @@
+pub mod Lists
+pub mod Pending
+pub mod Replies
+pub mod Entries
+pub mod Rooms
