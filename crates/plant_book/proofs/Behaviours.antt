@@ -40,8 +40,8 @@ module _ (history : History) (inverter : ℕ) (grant : Grant) (at : ℕ) (grante
   acted_last unseen =
       let reverted : Timed = record { at = at + tmax history.life.site.rules; event = Revert } in
       let start : IsStart history inverter (acted ∷ reverted ∷ []) =
-          start_push history inverter (acted ∷ []) reverted act_start
-          (revert_may history inverter (acted ∷ []) (at + tmax history.life.site.rules) (omega arith, tt) at grant refl (omega (arith, tmin_le-tmax history.life.site.rules)) (omega arith)) in
+      start_push history inverter (acted ∷ []) reverted act_start
+      (revert_may history inverter (acted ∷ []) (at + tmax history.life.site.rules) (omega arith, tt) at grant refl (omega (arith, tmin_le-tmax history.life.site.rules)) (omega arith)) in
       behaviour_of history inverter (acted ∷ reverted ∷ []) start (λ other moment is. revert_is_no_act reverted (record { at = moment; event = Act other }) other refl refl is) (λ sight seen mine. absurd (unseen sight seen mine))
 
 -- a write that acted at the last moment at which it may, and whose timer ran the longest

@@ -86,7 +86,7 @@ module _ (book : BookRecord) (before : List Entry) (entry : Entry) (few : IsFew 
         elim (cases_eq write.inverter inverter) [
           | inl its ↦
               let fewer : length (filter (is_current book.site.rules now inverter) (grant_of entry)) ≤ 1 =
-                  rw one (omega (arith, length-filter_le (is_current book.site.rules now inverter) (λ w. true) (λ w is. refl) (write ∷ []))) in
+              rw one (omega (arith, length-filter_le (is_current book.site.rules now inverter) (λ w. true) (λ w is. refl) (write ∷ []))) in
               let room = subst (λ (i : ℕ). length (live book.site.rules before (moment entry.call) i) < 32) its covered.room in
               omega (arith, all_few, left_few, fewer, room)
           | inr other ↦ few_by_none (rw (one, and_left (eqb write.inverter inverter) (leb now (write.at + reach book.site.rules)) (ne_eqb write.inverter inverter other)) refl)

@@ -292,7 +292,7 @@ module _ (history : History) (inverter : ℕ) (events : List Timed) (at : ℕ) (
     looks_first = all_of _ (λ timed sight other a b. absurd cc) events;
     ends = λ before after moment other is none change.
         let same : Some (record { at = moment; event = Act other }) ≡ Some (record { at = acted; event = Act grant }) =
-            sym (ap (last_that is_change) is ∙ last_that-is is_change before (record { at = moment; event = Act other }) after refl none) ∙ last in
+        sym (ap (last_that is_change) is ∙ last_that-is is_change before (record { at = moment; event = Act other }) after refl none) ∙ last in
         let then : moment ≡ acted = ap (λ (t : Timed). t.at) (some_alike _ _ same) in
         omega (arith, then, until);
     reverts = λ moment is.

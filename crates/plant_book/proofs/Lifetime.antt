@@ -125,7 +125,7 @@ module _ (book : BookRecord) (entry : Entry) (right : IsAnswer book book.entries
       let now = moment entry.call in
       let stay = filter_all_pass (λ (write : writes.Write). not (ends rules book.entries entry write)) (λ write. ap not (ends_none rules book.entries entry.call entry.reply write refused)) (standing rules [] book.entries) in
       let same : standing rules [] (book.entries ++ entry ∷ []) ≡ standing rules [] book.entries =
-          standing-push rules [] book.entries entry ∙ ap (λ (ws : List writes.Write). filter (λ write. not (ends rules book.entries entry write)) (standing rules [] book.entries) ++ ws) (grants_none entry.reply refused)
-          ∙ append-nil _ ∙ stay in
+      standing-push rules [] book.entries entry ∙ ap (λ (ws : List writes.Write). filter (λ write. not (ends rules book.entries entry write)) (standing rules [] book.entries) ++ ws) (grants_none entry.reply refused)
+      ∙ append-nil _ ∙ stay in
       ap (λ (at : ℕ). covering book.site inverter (filter (is_current rules at inverter) (standing rules [] (book.entries ++ entry ∷ [])))) (latest-push book.start book.entries entry)
       ∙ ap (λ (ws : List writes.Write). covering book.site inverter (filter (is_current rules now inverter) ws)) same

@@ -150,9 +150,9 @@ module _ (history : History) (inverter at : ℕ) (events first rest : List Timed
       let place = counted_stands is_look first some in
       let look = look_of sight place.one.event place.passes in
       let stands : first ≡ place.before ++ record { at = place.one.at; event = Look look.other } ∷ place.after =
-          place.stand ∙ ap (λ (e : Event). place.before ++ record { at = place.one.at; event = e } ∷ place.after) look.is in
+      place.stand ∙ ap (λ (e : Event). place.before ++ record { at = place.one.at; event = e } ∷ place.after) look.is in
       let all : events ≡ place.before ++ record { at = place.one.at; event = Look look.other } ∷ (place.after ++ rest) =
-          cut.parts ∙ ap (λ (ts : List Timed). ts ++ rest) stands ∙ append_assoc place.before (record { at = place.one.at; event = Look look.other } ∷ place.after) rest in
+      cut.parts ∙ ap (λ (ts : List Timed). ts ++ rest) stands ∙ append_assoc place.before (record { at = place.one.at; event = Look look.other } ∷ place.after) rest in
       let found = device.looks place.before (place.after ++ rest) place.one.at look.other all in
       let same : look.other ≡ sight = one_sight 1 (lives history) look.other sight found.0 within look.same_life look.same_place in
       record { before = place.before; after = place.after; moment = place.one.at; stand = stands ∙ ap (λ (s : Sight). place.before ++ record { at = place.one.at; event = Look s } ∷ place.after) same }
@@ -173,7 +173,7 @@ module _ (history : History) (inverter at : ℕ) (events first rest : List Timed
           | inl on_link ↦
               let both = and_parts (eqb grant.write.link sight.read.link) (ltb grant.write.number sight.read.number) on_link in
               let rises = device.numbers look act order (link_of_sight sight) sight.read.number grant.write.number
-                  (rw looks (refl, refl)) (rw acts (link_is (sym (eqb-true grant.write.link sight.read.link both.0)), refl)) in
+              (rw looks (refl, refl)) (rw acts (link_is (sym (eqb-true grant.write.link sight.read.link both.0)), refl)) in
               omega (arith, rises, ltb-true grant.write.number sight.read.number both.1)
           | inr past ↦ omega (arith, ltb-true (last_act history.life.site.rules grant.write.at) sight.read.at past, device.in_order look act order, from, until)
         ]

@@ -25,9 +25,9 @@ module _ (rules : Rules) (entries : List Entry) (place : ℕ) (default : Entry) 
       let more = take_more entries place default within in
       ap (λ (es : List Entry). filter (is_current rules now inverter) (standing rules (take place entries) es)) from_place
       ∙ filter-append (is_current rules now inverter) (filter (λ write. not (ends_later rules (take place entries ++ get_or entries place default ∷ []) (drop (place + 1) entries) write)) (grant_of (get_or entries place default)))
-          (standing rules (take place entries ++ get_or entries place default ∷ []) (drop (place + 1) entries))
+      (standing rules (take place entries ++ get_or entries place default ∷ []) (drop (place + 1) entries))
       ∙ ap (λ (es : List Entry). filter (is_current rules now inverter) (filter (λ write. not (ends_later rules es (drop (place + 1) entries) write)) (grant_of (get_or entries place default)))
-          ++ filter (is_current rules now inverter) (standing rules es (drop (place + 1) entries))) (sym more)
+      ++ filter (is_current rules now inverter) (standing rules es (drop (place + 1) entries))) (sym more)
 
   -- whether the entry at the place ends a write, or a later one
   pub ends_later-step : (write : writes.Write) → ends_later rules (take place entries) (drop place entries) write

@@ -124,7 +124,7 @@ module _ (book : BookRecord) (kept : IsBook book) where
       number_is_lower between stand same =
           let i = write.inverter in
           let whole : at.front ≡ its_read.front ++ its_read.entry ∷ (its_read.behind ++ seen.entry ∷ between) =
-              stand ∙ ap (λ (es : List Entry). es ++ seen.entry ∷ between) its_read.stand ∙ append_assoc its_read.front (its_read.entry ∷ its_read.behind) (seen.entry ∷ between) in
+          stand ∙ ap (λ (es : List Entry). es ++ seen.entry ∷ between) its_read.stand ∙ append_assoc its_read.front (its_read.entry ∷ its_read.behind) (seen.entry ∷ between) in
           let request : grants_to i its_read.entry.reply ≡ true = subst (λ (r : Reply). grants_to i r ≡ true) (sym its_read.reply) (eq-eqb sight.read.inverter i its) in
           let link : sight.read.link ≡ link_number i its_read.front = read_number.link ∙ ap (λ (j : ℕ). link_number j its_read.front) its in
           let number : sight.read.number ≡ requests i its_read.front + 1 = read_number.number ∙ ap (λ (j : ℕ). requests j its_read.front + 1) its in
@@ -326,7 +326,7 @@ module _ (book : BookRecord) (kept : IsBook book) (write : writes.Write) (at : S
     look_ready : (before after : List Timed) (acted : ℕ) (other : Grant) → front ++ look ∷ [] ≡ before ++ record { at = acted; event = Act other } ∷ after → find is_change after ≡ None → look.at ≤ acted + longest
     look_ready before after acted other is none =
         let all : events ≡ before ++ record { at = acted; event = Act other } ∷ (after ++ behind) =
-            stand ∙ sym (append_assoc front (look ∷ []) behind) ∙ ap (λ (ts : List Timed). ts ++ behind) is ∙ append_assoc before (record { at = acted; event = Act other } ∷ after) behind in
+        stand ∙ sym (append_assoc front (look ∷ []) behind) ∙ ap (λ (ts : List Timed). ts ++ behind) is ∙ append_assoc before (record { at = acted; event = Act other } ∷ after) behind in
         let next : find is_change (after ++ behind) ≡ find is_change behind = find-append is_change after behind ∙ ap (λ (o : Option Timed). option_or o (find is_change behind)) none in
         let ends = subst (λ (o : Option Timed). IsSomeAnd o (λ t. t.at ≤ acted + longest)) next (device.ends before (after ++ behind) acted other all) in
         by_next (find is_change behind) refl ends

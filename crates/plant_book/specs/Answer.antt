@@ -73,7 +73,7 @@ abbrev pub reply_to_sight : SiteRecord → ℕ → Option reads.Read → ℕ →
 reply_to_sight site inverter pending raw its_writes =
     if not (is_raw_of (floor_raw_at site inverter) raw its_writes) then replies.Strange raw
     else replies.Freed (length (filter (frees site.rules pending raw) its_writes))
-        (covering site inverter (filter (λ write. not (frees site.rules pending raw write)) its_writes))
+    (covering site inverter (filter (λ write. not (frees site.rules pending raw write)) its_writes))
 
 abbrev pub is_pending : Option reads.Read → ℕ → Bool
 is_pending None number = false

@@ -1,7 +1,9 @@
 ghost use Rattle.std.specs.Prelude.{◌≡◌, ℕ, List, [], ◌∷◌, ◌++◌, Contains};
 ghost use Rattle.plant_book.specs.declared.book.Entry.{Entry};
 ghost use Rattle.plant_book.specs.Book.{BookRecord};
-ghost use Rattle.plant_book.specs.Answered.{IsBook, IsNext, IsAnswer, with_entries};
+ghost use Rattle.share_policy.specs.Claims.{IsFeasible};
+ghost use Rattle.plant_book.specs.Policy.{claims};
+ghost use Rattle.plant_book.specs.Answered.{IsOpenable, IsBook, IsNext, IsAnswer, with_entries};
 ghost use Rattle.plant_book.specs.Lifetime.{LiveOn, ChangesNothing};
 ghost use Rattle.plant_book.specs.History.{History, Grant, Sight, grants, IsHistory};
 ghost use Rattle.plant_book.specs.Behaviour.{IsBehaviour, IsUnseen, MayShow, acts_last, acts_and_shows};
@@ -40,4 +42,9 @@ pub fn reservations_live_on()
 /// timed device, at a moment from the last of the book on.
 pub fn no_write_could_go_sooner()
     ensures { (book : BookRecord) → IsBook book → IsTight book }
+{}
+
+/// The claims of the inverters of a plant are feasible, whatever they wish for and whether they are strange or not.
+pub fn claims_are_feasible()
+    ensures { (book : BookRecord) → IsOpenable book.site → IsFeasible book.site.cap (claims book) }
 {}

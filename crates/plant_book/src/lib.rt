@@ -6,18 +6,21 @@
 
 mod book;
 mod call;
-mod requests;
-mod live;
 mod laws;
-mod port;
+mod live;
 mod policy;
+mod port;
 mod replies;
+mod requests;
 mod reserved;
 mod site;
 
 pub use book::{Book, ENTRY_BYTES_MAX, Entry};
 pub use call::{Call, LIVE_MAX, MOMENT_MAX, REQUESTS_MAX, Read, Reply, WISH_MAX, Write};
-pub use laws::{behaviours_exist, histories_are_safe, no_write_could_go_sooner, reservations_live_on};
+pub use laws::{
+    behaviours_exist, claims_are_feasible, histories_are_safe, no_write_could_go_sooner,
+    reservations_live_on,
+};
 pub use port::Port;
 pub use replies::{answer, goal_plain, is_stopped, reserved_plain, total_plain};
 pub use share_policy::{Claim, Policy};

@@ -76,7 +76,8 @@ fn changes_pending(entry: &Entry, inverter: u8) -> bool
             inverter: other,
             ..
         } => other == inverter && is_seen(&entry.reply),
-        Call::Read { .. } => matches!(entry.reply, Reply::ReadAs(read) if read.inverter == inverter),
+        Call::Read { .. } =>
+            matches!(entry.reply, Reply::ReadAs(read) if read.inverter == inverter),
         _ => false,
     }
 }

@@ -11,8 +11,8 @@ claims_max = 64
 abbrev pub rated_max : ℕ
 rated_max = 10 ^ 12
 
--- Claims are feasible under a cap where they are few, none has a floor above its rating or a rating above the greatest,
--- and their floors sum to at most the cap.
+-- Claims are feasible under a cap where they are few, none has a floor above its rating or a rating above the
+-- greatest, and their floors sum to at most the cap.
 pub record IsFeasible (cap : ℕ) (claims : List Claim) : Type 0 where
   pub few : length claims ≤ claims_max
   pub sound : AllByRecursion (λ claim. claim.floor ≤ claim.rated) claims

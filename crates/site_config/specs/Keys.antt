@@ -3,8 +3,8 @@ use Rattle.std.specs.Prelude.{ℕ, ℤ, pos, codes, List, [], ◌∷◌, if◌th
 use Rattle.std.specs.Int.RustNames.{unsigned_abs}
 use Rattle.std.specs.Str.{bytes_eq}
 use Rattle.toml.specs.Data.{Data, Items, no_items, item, Members, as_integer, as_str, as_array, as_table, get_member}
-use Rattle.plant_book.specs.declared.site.Policy as policy
-use Rattle.plant_book.specs.declared.site.Policy.TheVariants as policies
+use Rattle.share_policy.specs.declared.claim.Policy as policy
+use Rattle.share_policy.specs.declared.claim.Policy.TheVariants as policies
 use Rattle.plant_book.specs.Port.{PortRecord}
 use Rattle.site_config.specs.declared.key.Key.{Key}
 use Rattle.site_config.specs.declared.key.Key.TheVariants as keys

@@ -1,6 +1,6 @@
 ghost use Rattle.std.specs.Prelude.{◌≡◌, ◌^◌, ◌<◌, ◌≤◌, length, None, Some, IfOk, MatchResult};
 ghost use Rattle.toml.specs.View.{table_view};
-ghost use Rattle.plant_book.specs.declared.site.Policy as policies;
+ghost use Rattle.share_policy.specs.declared.claim.Policy as policies;
 ghost use Rattle.site_config.specs.Keys.{number_at, text_at, policy_of, inverters_at};
 ghost use Rattle.site_config.specs.Checks.{first_fault, site_checks, rules_checks, pace_checks, text_fault, is_policy};
 ghost use Rattle.site_config.specs.Reading.{HasRules, HasPace, HasSettings};

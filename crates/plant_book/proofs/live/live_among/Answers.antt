@@ -15,7 +15,7 @@ pub push-requires : goal.push-requires
 push-requires c =
     let a = c.args in
     let next = rest_live-step a.rules.now a.entries.now c.loop-place.place _ c.loop-place-test.true a.now a.inverter
-        ∙ ap (λ (ws : List writes.Write). ws ++ rest_live a.rules.now a.entries.now a.now a.inverter (c.loop-place.place + 1)) (sym c.live_grant.ensures ∙ ap option_to_list c.in-Some.is) in
+    ∙ ap (λ (ws : List writes.Write). ws ++ rest_live a.rules.now a.entries.now a.now a.inverter (c.loop-place.place + 1)) (sym c.live_grant.ensures ∙ ap option_to_list c.in-Some.is) in
     let room = found_room c.loop-place.live.items c.in-Some.write _ _ _ c.loop-place.invariant next in
     (lit< tt, omega (arith, room, c.requires))
 

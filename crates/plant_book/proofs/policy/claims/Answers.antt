@@ -7,18 +7,17 @@ use Rattle.plant_book.specs.Policy as rule
 use Rattle.plant_book.proofs.policy.claims.Goals as goal
 
 pub push-requires : goal.push-requires
-push-requires c =
-    (
-      lit< tt,
-      omega (
-        arith,
-        ap (length {A = Claim}) c.loop-inverter.invariant,
-        length-map-range_with_len (rule.claim_of c.args.book.now) 0 c.loop-inverter.inverter,
-        c.loop-inverter-test.true,
-        c.inverters-inverter-end.ensures,
-        c.requires.few,
-      ),
-    )
+push-requires c = (
+  lit< tt,
+  omega (
+    arith,
+    ap (length {A = Claim}) c.loop-inverter.invariant,
+    length-map-range_with_len (rule.claim_of c.args.book.now) 0 c.loop-inverter.inverter,
+    c.loop-inverter-test.true,
+    c.inverters-inverter-end.ensures,
+    c.requires.few,
+  ),
+)
 
 pub loop-inverter-preserved : goal.loop-inverter-preserved
 loop-inverter-preserved c =

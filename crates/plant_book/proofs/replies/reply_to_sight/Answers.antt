@@ -22,9 +22,9 @@ returns c =
     let site = a.book.now.site in
     let left : c.left_by-left.result.items ≡ filter (λ write. not (frees site.rules a.pending a.raw write)) a.live.now.items = rw c.rules.ensures at c.left_by-left.ensures in
     let count : c.len.result - c.len-2.result ≡ length (filter (frees site.rules a.pending a.raw) a.live.now.items) =
-        omega (arith, c.len.ensures.value, c.len-2.ensures.value, ap (length {A = writes.Write}) left, length-filter_not (frees site.rules a.pending a.raw) a.live.now.items) in
+    omega (arith, c.len.ensures.value, c.len-2.ensures.value, ap (length {A = writes.Write}) left, length-filter_not (frees site.rules a.pending a.raw) a.live.now.items) in
     let watts : c.covering.result ≡ covering site a.inverter (filter (λ write. not (frees site.rules a.pending a.raw write)) a.live.now.items) =
-        c.covering.ensures.watts ∙ ap (covering site a.inverter) (c.as_slice.ensures.value ∙ left) in
+    c.covering.ensures.watts ∙ ap (covering site a.inverter) (c.as_slice.ensures.value ∙ left) in
     let known : rule.is_raw_of (floor_raw_at site a.inverter) a.raw a.live.now.items ≡ true =
-        ap (λ (floor : ℕ). rule.is_raw_of floor a.raw a.live.now.items) (sym c.floor_raw.ensures) ∙ sym c.is_known.ensures ∙ c.if-not-is_known.false in
+    ap (λ (floor : ℕ). rule.is_raw_of floor a.raw a.live.now.items) (sym c.floor_raw.ensures) ∙ sym c.is_known.ensures ∙ c.if-not-is_known.false in
     rw known (freed_alike _ _ _ _ count watts)
