@@ -1,9 +1,9 @@
 -- Bytes that are a script leave its form nowhere; what was read is all that the source told; and the text that is
 -- printed is that of the replay.
-use Rattle.std.proofs.Common.{◌≡◌, ℕ, ◌≤◌, Bool, true, map, get_or, List, [], ◌∷◌, ◌++◌, length, Option, Some, None, refl, sym, ap, subst, ◌∙◌, arith, append_assoc}
+use Rattle.std.proofs.Common.{◌≡◌, ℕ, ◌≤◌, ◌⊎◌, inl, inr, Bool, true, map, get_or, List, [], ◌∷◌, ◌++◌, length, Option, Some, None, refl, sym, ap, subst, ◌∙◌, arith, append_assoc, length-append}
 use Rattle.std.specs.Prelude.{IfSome}
 use Rattle.std.specs.Option.{option_to_list}
-use Rattle.std.specs.Io.KnownBytes.{Consumes, IsAtEnd, Keeps}
+use Rattle.std.specs.Io.KnownBytes.{Consumes, IsAtEnd}
 use Rattle.std.proofs.lemmas.List.{append-nil}
 use Rattle.world_traits.specs.Causes.{Rose}
 use Rattle.plant_book.specs.Book.{BookRecord}
@@ -16,7 +16,8 @@ use Rattle.exporter.specs.Script.{MayFollow, EachMayFollow, lines_text, IsBegun,
 use Rattle.exporter.specs.Replay.{IsReplay}
 use Rattle.exporter.specs.Holding.{ScriptOf}
 use Rattle.exporter.specs.Playing as playing
-use Rattle.exporter.specs.Ends.{EndsBy, EndsScript, GainsNothing, IsDoneOrShort}
+use Rattle.exporter.specs.Streams.{input_limit, Change, Fails}
+use Rattle.exporter.specs.Ends.{IsReplayEnd}
 use Rattle.exporter.proofs.Fronts.{one_line}
 use Rattle.exporter.proofs.Progress.{line_long}
 
@@ -75,15 +76,6 @@ told_whole (Some told) None bytes P taken at_end holds = absurd taken
 told_whole (Some told) (Some left) bytes P taken at_end holds =
     subst P (sym (taken ∙ ap (λ (x : List ℕ). bytes ++ x) at_end ∙ append-nil bytes)) holds
 
-pub ends_by : (ended : Ended) (before now : ℕ) (old new : Option (List ℕ)) (bytes : List ℕ) → Consumes old new bytes → IsAtEnd new → EndsScript ended bytes → EndsBy ended before now old
-ends_by (ends.BadLine line kind) before now old new bytes taken at_end by = (by.0, told_whole old new bytes (λ b. LeavesFormAt b line) taken at_end by.1)
-ends_by ends.NoMemory before now old new bytes taken at_end by = tt
-ends_by ends.Done before now old new bytes taken at_end by = absurd by
-ends_by ends.BadWords before now old new bytes taken at_end by = absurd by
-ends_by ends.ReadFault before now old new bytes taken at_end by = absurd by
-ends_by ends.WriteFault before now old new bytes taken at_end by = absurd by
-ends_by (ends.TooLong limit) before now old new bytes taken at_end by = absurd by
-
 -- ---- the text of the replay
 
 pub replayed : (bytes text : List ℕ) (script : Script) (book : BookRecord) → ScriptOf bytes script → playing.Keeps script book → text ≡ book_text book → IsReplay bytes text
@@ -114,28 +106,32 @@ one_word f (x ∷ []) word text test one is tests = (
   λ same. let front : f x ≡ text = cc in tests.1 (ap f is ∙ front),
 )
 
--- ---- the ends of a replay that wrote nothing
+-- ---- a script is replayed
 
-pub keeps : (a : Option (List ℕ)) → Keeps a a
-keeps None = tt
-keeps (Some xs) = refl
+if_some_all : {A : Type 0} (found : Option A) (P : A → Type 0) → ((x : A) → P x) → IfSome found P
+if_some_all None P all = tt
+if_some_all (Some x) P all = all x
 
-pub gains_nothing : (ended : Ended) (before now : ℕ) (told out : Option (List ℕ)) → EndsBy ended before now told → GainsNothing ended out out
-gains_nothing ends.ReadFault before now told out by = keeps out
-gains_nothing (ends.BadLine line kind) before now told out by = keeps out
-gains_nothing (ends.TooLong limit) before now told out by = keeps out
-gains_nothing ends.NoMemory before now told out by = keeps out
-gains_nothing ends.BadWords before now told out by = absurd by
-gains_nothing ends.Done before now told out by = absurd by
-gains_nothing ends.WriteFault before now told out by = absurd by
+if_some_more : {A : Type 0} (found : Option A) (P Q : A → Type 0) → ((x : A) → P x → Q x) → IfSome found P → IfSome found Q
+if_some_more None P Q more some = tt
+if_some_more (Some x) P Q more some = more x some
 
-pub complete_by : (ended : Ended) (before now : ℕ) (told : Option (List ℕ)) (Other : Type 0) → EndsBy ended before now told
-    → IfSome told (λ bytes. length bytes ≤ 134217728 → (script : List Line) → IsScript bytes script → (Rose before now → ⊥) → (Other → ⊥) → IsDoneOrShort ended)
-complete_by ended before now None Other by = tt
-complete_by ends.ReadFault before now (Some bytes) Other by = λ small script is rose other. absurd (rose by)
-complete_by (ends.BadLine line kind) before now (Some bytes) Other by = λ small script is rose other. absurd (no_script_leaves bytes script line is by.1)
-complete_by (ends.TooLong limit) before now (Some bytes) Other by = λ small script is rose other. absurd (omega (arith, small, by.1))
-complete_by ends.NoMemory before now (Some bytes) Other by = λ small script is rose other. tt
-complete_by ends.BadWords before now (Some bytes) Other by = absurd by
-complete_by ends.Done before now (Some bytes) Other by = absurd by
-complete_by ends.WriteFault before now (Some bytes) Other by = absurd by
+told_front : (old new : Option (List ℕ)) (read : List ℕ) → Consumes old new read → IfSome old (λ bytes. length read ≤ length bytes)
+told_front None new read taken = tt
+told_front (Some told) None read taken = absurd taken
+told_front (Some told) (Some left) read taken = omega (arith, ap length taken, length-append read left)
+
+pub complete : (ended : Ended) (read : List ℕ) (input output : Change) → IsReplayEnd ended read input output
+    → IfSome input.old (λ bytes. length bytes ≤ input_limit → (script : List Line) → IsScript bytes script → (Fails input → ⊥) → (Fails output → ⊥)
+    → (ended ≡ ends.Done) ⊎ (ended ≡ ends.NoMemory))
+complete ends.Done read input output row = if_some_all input.old _ (λ bytes within script is no_fault none. inl refl)
+complete ends.NoMemory read input output row = if_some_all input.old _ (λ bytes within script is no_fault none. inr refl)
+complete ends.ReadFault read input output row = if_some_all input.old _ (λ bytes within script is no_fault none. absurd (no_fault row.cause))
+complete ends.WriteFault read input output row = if_some_all input.old _ (λ bytes within script is no_fault none. absurd (none row.cause))
+complete (ends.BadLine line kind) read input output row =
+    if_some_more input.old (λ bytes. LeavesFormAt bytes line) _ (λ bytes leaves within script is no_fault none. absurd (no_script_leaves bytes script line is leaves))
+    (told_whole input.old input.new read (λ bytes. LeavesFormAt bytes line) row.read.bytes row.read.at_end row.cause.1)
+complete (ends.TooLong limit) read input output row =
+    if_some_more input.old (λ bytes. length read ≤ length bytes) _ (λ bytes front within script is no_fault none. absurd (omega (arith, front, within, row.read.beyond)))
+    (told_front input.old input.new read row.read.bytes)
+complete ends.BadWords read input output row = absurd row

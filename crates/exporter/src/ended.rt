@@ -1,5 +1,5 @@
-ghost use Rattle.std.specs.Prelude.{◌≡◌};
-ghost use Rattle.exporter.specs.Ends.{status_of};
+ghost use Rattle.std.specs.Prelude.{◌≡◌, Some};
+ghost use Rattle.exporter.specs.Ends.{status_of, kind_text, end_text};
 
 use std::fmt;
 use std::fmt::{Display, Formatter};
@@ -51,6 +51,8 @@ pub fn status(ended: &Ended) -> u8
 }
 
 impl Display for LineKind {
+    ghost output = { λ kind. Some (kind_text kind) };
+
     fn fmt<W: fmt::Write>(&self, f: &mut Formatter<W>) -> fmt::Result {
         let name = match self {
             LineKind::Form => "form",
@@ -64,6 +66,8 @@ impl Display for LineKind {
 
 /// The line on standard error.
 impl Display for Ended {
+    ghost output = { λ ended. Some (end_text ended) };
+
     fn fmt<W: fmt::Write>(&self, f: &mut Formatter<W>) -> fmt::Result {
         match self {
             Ended::Done => f.write_str("done"),

@@ -5,6 +5,7 @@ ghost use Rattle.plant_book.specs.Sums.{sum_below};
 ghost use Rattle.plant_book.specs.Calls.{named};
 ghost use Rattle.plant_book.specs.Answered.{IsOpenable};
 ghost use Rattle.exporter.specs.declared.line.Line.{Line};
+ghost use Rattle.exporter.specs.declared.script.ScriptFault.TheVariants as faults;
 ghost use Rattle.exporter.specs.Script.{site_with, last_moment};
 ghost use Rattle.exporter.specs.Holding.{Holds, IsNextCall, FitsIn, TakesLine, Stops, ScriptOf, Explains};
 
@@ -30,6 +31,14 @@ pub enum ScriptFault {
     /// The number of the first line at which they leave the form of a script, from 1.
     BadLine(u32),
     NoMemory,
+}
+
+impl From<NoMemory> for ScriptFault {
+    ghost from_gives = { λ _ fault. fault ≡ faults.NoMemory };
+
+    fn from(_: NoMemory) -> ScriptFault {
+        ScriptFault::NoMemory
+    }
 }
 
 /// The milliwatts of the floors of inverters.
