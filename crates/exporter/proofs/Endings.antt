@@ -5,14 +5,13 @@ use Rattle.std.specs.Prelude.{IfSome}
 use Rattle.std.specs.Option.{option_to_list}
 use Rattle.std.specs.Io.KnownBytes.{Consumes, IsAtEnd}
 use Rattle.std.proofs.lemmas.List.{append-nil}
-use Rattle.world_traits.specs.Causes.{Rose}
 use Rattle.plant_book.specs.Book.{BookRecord}
 use Rattle.exporter.specs.declared.line.Line.{Line}
 use Rattle.exporter.specs.declared.script.Script.{Script}
 use Rattle.exporter.specs.declared.ended.Ended.{Ended}
 use Rattle.exporter.specs.declared.ended.Ended.TheVariants as ends
 use Rattle.exporter.specs.Text.{line_text, book_text}
-use Rattle.exporter.specs.Script.{MayFollow, EachMayFollow, lines_text, IsBegun, IsScript, LeavesFormAt, site_with}
+use Rattle.exporter.specs.Script.{MayFollow, EachMayFollow, lines_text, HasBegin, IsScript, LeavesFormAt, site_with}
 use Rattle.exporter.specs.Replay.{IsReplay}
 use Rattle.exporter.specs.Holding.{ScriptOf}
 use Rattle.exporter.specs.Playing as playing
@@ -22,7 +21,7 @@ use Rattle.exporter.proofs.Fronts.{one_line}
 use Rattle.exporter.proofs.Progress.{line_long}
 
 walk : (acc before script : List Line) (rest : List ℕ) → EachMayFollow acc before → EachMayFollow acc script → lines_text script ≡ lines_text before ++ rest
-    → ((line : Line) (more : List ℕ) → MayFollow (acc ++ before) line → rest ≡ line_text line ++ more → ⊥) → (rest ≡ [] → IsBegun (acc ++ before) → ⊥) → IsBegun (acc ++ script) → ⊥
+    → ((line : Line) (more : List ℕ) → MayFollow (acc ++ before) line → rest ≡ line_text line ++ more → ⊥) → (rest ≡ [] → HasBegin (acc ++ before) → ⊥) → HasBegin (acc ++ script) → ⊥
 walk acc [] [] rest form whole e leaves unfinished begun = unfinished (sym e) begun
 walk acc [] (line ∷ more) rest form whole e leaves unfinished begun = leaves line (lines_text more) (subst (λ (xs : List Line). MayFollow xs line) (sym (append-nil acc)) whole.0) (sym e)
 walk acc (b ∷ bs) [] rest form whole e leaves unfinished begun = omega (arith, line_long b [] (lines_text bs ++ rest) (e ∙ append_assoc (line_text b) (lines_text bs) rest))
@@ -30,11 +29,11 @@ walk acc (b ∷ bs) (s ∷ ss) rest form whole e leaves unfinished begun =
     let same = one_line s b (lines_text ss) (lines_text bs ++ rest) whole.0.0 form.0.0 (e ∙ append_assoc (line_text b) (lines_text bs) rest) in
     walk (acc ++ b ∷ []) bs ss rest form.1 (subst (λ (x : Line). EachMayFollow (acc ++ x ∷ []) ss) same.0 whole.1) same.1
     (λ line more may. leaves line more (subst (λ (xs : List Line). MayFollow xs line) (append_assoc acc (b ∷ []) bs) may))
-    (λ none begun'. unfinished none (subst IsBegun (append_assoc acc (b ∷ []) bs) begun'))
-    (subst IsBegun (sym (append_assoc acc (b ∷ []) ss)) (subst (λ (x : Line). IsBegun (acc ++ x ∷ ss)) same.0 begun))
+    (λ none begun'. unfinished none (subst HasBegin (append_assoc acc (b ∷ []) bs) begun'))
+    (subst HasBegin (sym (append_assoc acc (b ∷ []) ss)) (subst (λ (x : Line). HasBegin (acc ++ x ∷ ss)) same.0 begun))
 
 pub no_script_leaves : (bytes : List ℕ) (script : List Line) (number : ℕ) → IsScript bytes script → LeavesFormAt bytes number → ⊥
-no_script_leaves bytes script number s l = walk [] l.before script l.rest l.form s.form (sym s.spelled ∙ l.spelled) l.leaves l.unfinished s.begun
+no_script_leaves bytes script number s l = walk [] l.before script l.rest l.form s.form (sym s.spelling ∙ l.spelling) l.leaves l.no_end s.has_begin
 
 same_lines : (acc a b : List Line) → EachMayFollow acc a → EachMayFollow acc b → lines_text a ≡ lines_text b → a ≡ b
 same_lines acc [] [] p q e = refl
@@ -46,7 +45,7 @@ same_lines acc (a ∷ ls) (b ∷ bs) p q e =
     ap (λ (x : Line). x ∷ ls) same.0 ∙ ap (λ (xs : List Line). b ∷ xs) more
 
 pub one_script : (bytes : List ℕ) (a b : List Line) → IsScript bytes a → IsScript bytes b → a ≡ b
-one_script bytes a b p q = same_lines [] a b p.form q.form (sym p.spelled ∙ q.spelled)
+one_script bytes a b p q = same_lines [] a b p.form q.form (sym p.spelling ∙ q.spelling)
 
 abbrev Leaves : List Line → List ℕ → Type 0
 Leaves before rest = (line : Line) (more : List ℕ) → MayFollow before line → rest ≡ line_text line ++ more → ⊥
@@ -66,7 +65,7 @@ same_count acc (a ∷ ls) (b ∷ bs) x y p q e leaves leaves' =
 
 pub one_number : (bytes : List ℕ) (m n : ℕ) → LeavesFormAt bytes m → LeavesFormAt bytes n → m ≡ n
 one_number bytes m n p q =
-    omega (arith, p.counted, q.counted, same_count [] p.before q.before p.rest q.rest p.form q.form (sym p.spelled ∙ q.spelled) p.leaves q.leaves)
+    omega (arith, p.count, q.count, same_count [] p.before q.before p.rest q.rest p.form q.form (sym p.spelling ∙ q.spelling) p.leaves q.leaves)
 
 -- ---- what the source told
 
@@ -83,16 +82,16 @@ replayed bytes text script book s k printed = record {
   lines = s.lines;
   is_script = s.is_script;
   book = book;
-  is_book = k.is_book.kept;
+  is_book = k.is_book.is_book;
   safe = k.is_book.safe;
-  told = record {
+  tells = record {
     line = k.site;
-    sites = s.held.sites ∙ ap option_to_list k.site_is;
-    is_site = k.site_kept ∙ ap (λ (us : _). site_with k.site us) (sym s.held.units);
-    starts = s.held.starts ∙ ap option_to_list k.start_kept;
-    calls_are = s.held.calls ∙ sym k.calls_kept;
+    sites = s.holds.sites ∙ ap option_to_list k.site_is;
+    is_site = k.book_site ∙ ap (λ (us : _). site_with k.site us) (sym s.holds.units);
+    starts = s.holds.starts ∙ ap option_to_list k.book_start;
+    calls_are = s.holds.calls ∙ sym k.book_calls;
   };
-  printed = printed;
+  text_is = printed;
 }
 
 -- ---- the words

@@ -7,7 +7,8 @@ use Rattle.exporter.specs.declared.ended.Ended.{Ended}
 use Rattle.exporter.specs.declared.ended.Ended.TheVariants as ends
 use Rattle.exporter.specs.Script.{LeavesFormAt}
 use Rattle.exporter.specs.Replay.{IsReplay}
-use Rattle.exporter.specs.Streams.{input_limit, Change, Fails, ReadsFront, ReadsWhole, ReadsBeyond, GainsText, GainsFront, GainsNothing}
+use Rattle.exporter.specs.Streams.{input_limit, Change, Fails, ReadsFront, ReadsWhole, ReadsBeyond}
+use Rattle.exporter.specs.Streams.{GainsText, GainsFront, GainsNothing}
 
 -- the words are the one that asks for a replay
 abbrev pub AreReplay : List (List ℕ) → Type 0

@@ -9,7 +9,7 @@ use Rattle.exporter.specs.declared.input.InputFault.TheVariants as faults
 abbrev pub input_limit : ℕ
 input_limit = 134217728
 
--- what a source or a sink tells before and after a call: its bytes, where it tells them, and its count of faults
+-- what a source or a sink tells before and after a call: its bytes, where it does, and its count of faults
 pub record Change : Type 0 where
   pub old : Option (List ℕ)
   pub new : Option (List ℕ)
@@ -45,8 +45,8 @@ pub record ReadsBeyond (read : List ℕ) (input : Change) : Type 0 where
   pub bytes : Consumes input.old input.new read
   pub beyond : input_limit < length read
 
--- why a source was not read whole, and what was read of it: it failed, it gave a byte beyond the limit, or memory ran
--- out
+-- why a source was not read whole, and what was read of it: it failed, it gave a byte beyond the limit, or
+-- memory ran out
 abbrev pub StopsReading : InputFault → List ℕ → Change → Type 0
 StopsReading faults.Failed read input = Fails input × ReadsFront read input
 StopsReading faults.TooLong read input = ReadsBeyond read input

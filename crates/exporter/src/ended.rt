@@ -25,14 +25,23 @@ pub enum Ended {
     /// The words of the command line ask for nothing that the program does.
     BadWords,
     /// The line of this number, from 1, is the first that is at fault.
-    BadLine { line: u32, kind: LineKind },
+    BadLine {
+        /// The number of the line, from 1.
+        line: u32,
+        /// How it is at fault.
+        kind: LineKind,
+    },
     /// The input failed.
     ReadFault,
     /// The output failed.
     WriteFault,
+    /// Memory ran out.
     NoMemory,
-    /// The input has more bytes than so many.
-    TooLong { limit: u32 },
+    /// The input has more bytes than it may have.
+    TooLong {
+        /// How many bytes it may have.
+        limit: u32,
+    },
 }
 
 /// The status with which the program ends.

@@ -7,7 +7,7 @@ use world_traits::Source;
 /// How many bytes an input has at most.
 pub const INPUT_MAX: u32 = 134_217_728;
 
-/// How many bytes are read at a time.
+/// How many bytes are read at a time, at most.
 const CHUNK: usize = 4096;
 
 /// Why an input was not read.
@@ -17,6 +17,7 @@ pub enum InputFault {
     Failed,
     /// The source gave a byte beyond the limit.
     TooLong,
+    /// Memory ran out.
     NoMemory,
 }
 

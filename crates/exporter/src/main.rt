@@ -1,7 +1,7 @@
 //! The program: a script of calls goes in, and the book with the reply to each call comes out.
 //!
-//! `plain` does all that the program does, over any input and output; its contract says what. `main` hands it the
-//! words of the command line, standard input and standard output.
+//! `plain` does all that the program does, over any input and output; its contract says what. `main` hands it
+//! the words of the command line, standard input and standard output.
 #![tactic(auto)]
 
 mod command_line;

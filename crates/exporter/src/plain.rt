@@ -1,7 +1,7 @@
 ghost use Rattle.std.specs.Prelude.{◌≡◌, ◌↔◌, ◌⊎◌, ◌<◌, ◌≤◌, ℕ, List, map, length};
 ghost use Rattle.std.specs.Prelude.{IsTrue, IfSome, IfOk, IfErr};
 ghost use Rattle.std.specs.String.{string_bytes};
-ghost use Rattle.std.specs.Io.KnownBytes.{IsAtEnd, Keeps};
+ghost use Rattle.std.specs.Io.KnownBytes.{IsAtEnd};
 ghost use Rattle.world_traits.specs.Causes.{Rose};
 ghost use Rattle.exporter.specs.declared.line.Line.{Line};
 ghost use Rattle.exporter.specs.Script.{IsScript, LeavesFormAt};
@@ -44,6 +44,7 @@ fn replay_bytes(alloc: Global, bytes: &[u8]) -> Result<String, ScriptFault>
 fn replay<S: Source, O: Sink>(alloc: Global, input: &mut S, out: &mut O) -> Ended
     ensures ends { (read : List ℕ) × IsReplayEnd result read
         (change S.left S.faults input.old input.new) (change O.taken O.faults out.old out.new) }
+    ensures nothing { (result ≡ Ended.Done → ⊥) → (result ≡ Ended.WriteFault → ⊥) → out.new ≡ out.old }
     ensures read_faults_stay { S.faults input.old ≤ S.faults input.new }
     ensures write_faults_stay { O.faults out.old ≤ O.faults out.new }
 {
@@ -67,8 +68,8 @@ fn replay<S: Source, O: Sink>(alloc: Global, input: &mut S, out: &mut O) -> Ende
     }
 }
 
-/// Does what the words of the command line ask for, with an input and an output. `replay` reads a script to its
-/// end, keeps its book, and writes the text of the book.
+/// Does what the words of the command line ask for, with an input and an output. `replay` reads a script to
+/// its end, keeps its book, and writes the text of the book.
 pub fn plain<S: Source, O: Sink>(
     alloc: Global,
     words: &Vec<String>,
@@ -79,7 +80,7 @@ pub fn plain<S: Source, O: Sink>(
     ensures bad_words { result ≡ Ended.BadWords ↔ (AreReplay (map string_bytes words.now.items) → ⊥) }
     ensures unread { result ≡ Ended.BadWords → input.new ≡ input.old }
 
-    // What each end of `replay` says of the bytes that were read: why it came, what was read, and what was written.
+    // What each end of `replay` says, for the bytes that were read: its cause, what was read, what was written.
     ensures ends { AreReplay (map string_bytes words.now.items) → (read : List ℕ) × IsReplayEnd result read
         (change S.left S.faults input.old input.new) (change O.taken O.faults out.old out.new) }
     ensures read_faults_stay { S.faults input.old ≤ S.faults input.new }
@@ -97,27 +98,28 @@ pub fn plain<S: Source, O: Sink>(
     ensures read_fault { result ≡ Ended.ReadFault → Rose (S.faults input.old) (S.faults input.new) }
     ensures write_fault { result ≡ Ended.WriteFault → Rose (O.faults out.old) (O.faults out.new) }
 
-    // At Done the input was read to its end, and the output gained the text of its replay; at WriteFault it gained
-    // a front of that text, and at every other end nothing.
+    // At Done the input was read to its end, and the output gained the text of its replay; at WriteFault it
+    // gained a front of that text, and at every other end nothing.
     ensures read { result ≡ Ended.Done → IsAtEnd (S.left input.new) }
     ensures gained { IfSome (S.left input.old) (λ bytes.
-        (result ≡ Ended.Done → GainsText (IsReplay bytes) (change O.taken O.faults out.old out.new))
-        × (result ≡ Ended.WriteFault → GainsFront (IsReplay bytes) (change O.taken O.faults out.old out.new))) }
-    ensures nothing { (result ≡ Ended.Done → ⊥) → (result ≡ Ended.WriteFault → ⊥)
-        → Keeps (O.taken out.old) (O.taken out.new) }
+        (result ≡ Ended.Done
+        → GainsText (IsReplay bytes) (change O.taken O.faults out.old out.new))
+        × (result ≡ Ended.WriteFault
+        → GainsFront (IsReplay bytes) (change O.taken O.faults out.old out.new))) }
+    ensures nothing { (result ≡ Ended.Done → ⊥) → (result ≡ Ended.WriteFault → ⊥) → out.new ≡ out.old }
 
-    // A script is replayed, and an input beyond its limit is too long, unless memory runs out, or the input or the
-    // output fails.
+    // A script is replayed, and an input beyond its limit is too long, unless memory runs out, or the input
+    // or the output fails.
     ensures complete { AreReplay (map string_bytes words.now.items)
         → IfSome (S.left input.old) (λ bytes. length bytes ≤ input_limit
-            → (script : List Line) → IsScript bytes script
-            → (Rose (S.faults input.old) (S.faults input.new) → ⊥)
-            → (Rose (O.faults out.old) (O.faults out.new) → ⊥)
-            → (result ≡ Ended.Done) ⊎ (result ≡ Ended.NoMemory)) }
+        → (script : List Line) → IsScript bytes script
+        → (Rose (S.faults input.old) (S.faults input.new) → ⊥)
+        → (Rose (O.faults out.old) (O.faults out.new) → ⊥)
+        → (result ≡ Ended.Done) ⊎ (result ≡ Ended.NoMemory)) }
     ensures beyond { AreReplay (map string_bytes words.now.items)
         → IfSome (S.left input.old) (λ bytes. input_limit < length bytes
-            → (Rose (S.faults input.old) (S.faults input.new) → ⊥)
-            → (result ≡ Ended.TooLong input_limit) ⊎ (result ≡ Ended.NoMemory)) }
+        → (Rose (S.faults input.old) (S.faults input.new) → ⊥)
+        → (result ≡ Ended.TooLong input_limit) ⊎ (result ≡ Ended.NoMemory)) }
 {
     if !is_replay(words) {
         return Ended::BadWords;
