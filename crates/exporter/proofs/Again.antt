@@ -12,7 +12,7 @@ use Rattle.exporter.specs.declared.fields.Fields.{Fields}
 use Rattle.exporter.specs.declared.fields.Fields.TheVariants as fields
 use Rattle.exporter.specs.Text.{line_text}
 use Rattle.exporter.specs.Script.{IsLine}
-use Rattle.exporter.specs.Reading.{after, negative_at, positive_at, signed_at, site_at, inverter_at, begin_at, link_at, ask_at, tick_at, fields_at, fields_of}
+use Rattle.exporter.specs.Reading.{rest_after, negative_at, positive_at, signed_at, site_at, inverter_at, begin_at, link_at, ask_at, tick_at, fields_at, fields_of}
 use Rattle.exporter.proofs.Decimals.{IsDigits, own, number_again}
 
 space : 32 < 48
@@ -38,7 +38,7 @@ unfolding ask_at
 ask_again at inverter raw rest small below low =
     rw (number_again 32 at (decimal inverter ++ 32 ∷ (decimal raw ++ 10 ∷ rest)) space small, number_again 32 inverter (decimal raw ++ 10 ∷ rest) space below, number_again 10 raw rest line_end low) refl
 
-no_minus : (ds rest : List ℕ) → IsDigits ds → 0 < length ds → after (codes "-") (ds ++ rest) ≡ None
+no_minus : (ds rest : List ℕ) → IsDigits ds → 0 < length ds → rest_after (codes "-") (ds ++ rest) ≡ None
 no_minus [] rest digits long = absurd (omega (arith, long))
 no_minus (c ∷ cs) rest digits long = rw (ne_eqb c 45 (omega (arith, digits.0))) refl
 

@@ -20,7 +20,7 @@ pub enters_one : (old new : BookRecord) (call : Call) (reply : Reply)
 enters_one old new call reply is later = record {
   site = ap (λ (b : BookRecord). b.site) is;
   start = ap (λ (b : BookRecord). b.start) is;
-  entered = ap (λ (b : BookRecord). calls_in b.entries) is ∙ map_push (λ (entry : Entry). entry.call) old.entries (record { call = entered old.start old.entries call; reply = reply })
+  calls = ap (λ (b : BookRecord). calls_in b.entries) is ∙ map_push (λ (entry : Entry). entry.call) old.entries (record { call = entered old.start old.entries call; reply = reply })
       ∙ ap (λ (c : Call). calls_in old.entries ++ c ∷ []) (entered_is old.start old.entries call later);
 }
 
@@ -31,7 +31,7 @@ pub record Entering (first now : BookRecord) (calls : List Call) (k : ℕ) : Typ
   pub kept : IsSafeBook now
 
 pub entering_none : (first : BookRecord) (calls : List Call) → FitBehind first calls → IsSafeBook first → Entering first first calls 0
-entering_none first calls fit kept = record { entered = record { site = refl; start = refl; entered = sym (append-nil (calls_in first.entries)) }; fit = fit; kept = kept }
+entering_none first calls fit kept = record { entered = record { site = refl; start = refl; calls = sym (append-nil (calls_in first.entries)) }; fit = fit; kept = kept }
 
 next_is : (calls : List Call) (k : ℕ) (d : Call) → k < length calls → drop k calls ≡ get_or calls k d ∷ drop (k + 1) calls
 next_is calls k d lt = drop-cons calls k d lt ∙ ap (λ (n : ℕ). get_or calls k d ∷ drop n calls) (sym (add-one k))
@@ -49,11 +49,11 @@ entering_one first now next calls k d lt e one kept =
       entered = record {
         site = one.site ∙ e.entered.site;
         start = one.start ∙ e.entered.start;
-        entered = one.entered ∙ ap (λ (xs : List Call). xs ++ call ∷ []) e.entered.entered ∙ append_assoc (calls_in first.entries) (take k calls) (call ∷ []) ∙ ap (λ (xs : List Call). calls_in first.entries ++ xs) (sym (take_more calls k d lt));
+        calls = one.calls ∙ ap (λ (xs : List Call). xs ++ call ∷ []) e.entered.calls ∙ append_assoc (calls_in first.entries) (take k calls) (call ∷ []) ∙ ap (λ (xs : List Call). calls_in first.entries ++ xs) (sym (take_more calls k d lt));
       };
       fit = subst (λ (site : SiteRecord). EachFits site.room (inverters site) next.start (calls_in next.entries) (drop (k + 1) calls)) (sym one.site)
           (subst (λ (start : ℕ). EachFits now.site.room (inverters now.site) start (calls_in next.entries) (drop (k + 1) calls)) (sym one.start)
-          (subst (λ (xs : List Call). EachFits now.site.room (inverters now.site) now.start xs (drop (k + 1) calls)) (sym one.entered) fit.1));
+          (subst (λ (xs : List Call). EachFits now.site.room (inverters now.site) now.start xs (drop (k + 1) calls)) (sym one.calls) fit.1));
       kept = kept;
     }
 
@@ -64,7 +64,7 @@ kept_all script line start made opened new calls made-is opened-is entered calls
   is_book = kept;
   site = line;
   site_is = site-is;
-  site_kept = entered.site ∙ ap (λ (b : BookRecord). b.site) opened-is ∙ made-is;
-  start_kept = start-is ∙ ap (λ (n : ℕ). Some n) (sym (entered.start ∙ ap (λ (b : BookRecord). b.start) opened-is));
-  calls_kept = entered.entered ∙ ap (λ (b : BookRecord). calls_in b.entries ++ calls) opened-is ∙ calls-is;
+  book_site = entered.site ∙ ap (λ (b : BookRecord). b.site) opened-is ∙ made-is;
+  book_start = start-is ∙ ap (λ (n : ℕ). Some n) (sym (entered.start ∙ ap (λ (b : BookRecord). b.start) opened-is));
+  book_calls = entered.calls ∙ ap (λ (b : BookRecord). calls_in b.entries ++ calls) opened-is ∙ calls-is;
 }

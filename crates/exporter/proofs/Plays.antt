@@ -8,17 +8,17 @@ use Rattle.plant_book.specs.declared.site.Unit as unit
 use Rattle.plant_book.specs.declared.call.Call.{Call}
 use Rattle.plant_book.specs.declared.call.Call.TheVariants as calls
 use Rattle.plant_book.specs.declared.book.Entry.{Entry}
-use Rattle.plant_book.specs.declared.call.TheConstants.{MOMENT_MAX}
 use Rattle.plant_book.specs.Answered.{IsOpenable}
 use Rattle.plant_book.specs.Calls.{moment, named, at_moment, latest, entered}
 use Rattle.exporter.specs.declared.line.SiteLine as site_line
 use Rattle.exporter.specs.declared.line.Line.{Line}
 use Rattle.exporter.specs.declared.line.Line.TheVariants as lines
 use Rattle.exporter.specs.declared.script.Script.{Script}
+use Rattle.exporter.specs.Ranges.{moment_most}
 use Rattle.exporter.specs.Script.{site_on, unit_on, start_on, call_on, sites_of, units_of, starts_of, calls_of, last_moment, site_with, EachMayFollow, MayFollow}
 use Rattle.exporter.specs.Holding.{ScriptOf}
 use Rattle.exporter.proofs.Places.{list_some}
-use Rattle.exporter.specs.Playing.{CallFits, EachFits, Playable, calls_in}
+use Rattle.exporter.specs.Playing.{CallFits, EachFits, IsPlayable, calls_in}
 
 -- ---- the call is entered as it is
 
@@ -79,7 +79,7 @@ next_fits acc later call site start units may whole =
     let start-is : place.2 ≡ start = one_front (starts_of acc) place.2 start (starts_of later) place.3 (sym (flat_map-append start_on acc later) ∙ whole.starts) in
     let few : length (units_of acc) ≤ units = omega (arith, whole.count, ap length (flat_map-append unit_on acc later), length-append (units_of acc) (units_of later)) in
     record {
-      built = may.0.0;
+      is_built = may.0.0;
       moment_high = may.0.2;
       next = (
         below_more (named call) (length (units_of acc)) units few place.4,
@@ -109,8 +109,8 @@ each_fits acc (line ∷ later) site start units form whole =
 record Begun (lines : List Line) (start : ℕ) : Type 0 where
   site : site_line.SiteLine
   sites : sites_of lines ≡ site ∷ []
-  openable : IsOpenable (site_with site (units_of lines))
-  high : start ≤ MOMENT_MAX
+  is_openable : IsOpenable (site_with site (units_of lines))
+  high : start ≤ moment_most
 
 abbrev BegunWell : List Line → Type 0
 BegunWell acc = (start : ℕ) → starts_of acc ≡ start ∷ [] → Begun acc start
@@ -132,15 +132,15 @@ begun_on acc (lines.Begin at) may well start starts =
     record {
       site = may.1.0;
       sites = kept_by site_on acc (lines.Begin at) refl ∙ may.1.1;
-      openable = subst (λ (us : List unit.Unit). IsOpenable (site_with may.1.0 us)) (sym (kept_by unit_on acc (lines.Begin at) refl)) may.1.3;
-      high = subst (λ (n : ℕ). n ≤ MOMENT_MAX) same may.0;
+      is_openable = subst (λ (us : List unit.Unit). IsOpenable (site_with may.1.0 us)) (sym (kept_by unit_on acc (lines.Begin at) refl)) may.1.3;
+      high = subst (λ (n : ℕ). n ≤ moment_most) same may.0;
     }
 begun_on acc (lines.Call x) may well start starts =
     let b = well start (sym (kept_by start_on acc (lines.Call x) refl) ∙ starts) in
     record {
       site = b.site;
       sites = kept_by site_on acc (lines.Call x) refl ∙ b.sites;
-      openable = subst (λ (us : List unit.Unit). IsOpenable (site_with b.site us)) (sym (kept_by unit_on acc (lines.Call x) refl)) b.openable;
+      is_openable = subst (λ (us : List unit.Unit). IsOpenable (site_with b.site us)) (sym (kept_by unit_on acc (lines.Call x) refl)) b.is_openable;
       high = b.high;
     }
 
@@ -148,17 +148,17 @@ begun_all : (acc later : List Line) → EachMayFollow acc later → BegunWell ac
 begun_all acc [] form well = subst BegunWell (sym (append-nil acc)) well
 begun_all acc (line ∷ later) form well = subst BegunWell (append_assoc acc (line ∷ []) later) (begun_all (acc ++ line ∷ []) later form.1 (begun_on acc line form.0 well))
 
-pub playable : (bytes : List ℕ) (script : Script) → ScriptOf bytes script → Playable script
+pub playable : (bytes : List ℕ) (script : Script) → ScriptOf bytes script → IsPlayable script
 playable bytes script s =
-    let start = s.is_script.begun in
+    let start = s.is_script.has_begin in
     let b = begun_all [] s.lines s.is_script.form (λ start none. no_list [] start refl none) start.0 start.1 in
     record {
       site = b.site;
-      site_is = list_some script.site b.site (sym s.held.sites ∙ b.sites);
+      site_is = list_some script.site b.site (sym s.holds.sites ∙ b.sites);
       start = start.0;
-      start_is = list_some script.start start.0 (sym s.held.starts ∙ start.1);
+      start_is = list_some script.start start.0 (sym s.holds.starts ∙ start.1);
       start_high = b.high;
-      openable = subst (λ (us : List unit.Unit). IsOpenable (site_with b.site us)) s.held.units b.openable;
-      calls = subst (λ (cs : List Call). EachFits b.site.room (length script.units.items) start.0 [] cs) s.held.calls
-          (each_fits [] s.lines b.site start.0 (length script.units.items) s.is_script.form (record { sites = b.sites; starts = start.1; count = ap length s.held.units }));
+      is_openable = subst (λ (us : List unit.Unit). IsOpenable (site_with b.site us)) s.holds.units b.is_openable;
+      calls = subst (λ (cs : List Call). EachFits b.site.room (length script.units.items) start.0 [] cs) s.holds.calls
+          (each_fits [] s.lines b.site start.0 (length script.units.items) s.is_script.form (record { sites = b.sites; starts = start.1; count = ap length s.holds.units }));
     }

@@ -8,8 +8,8 @@ use Rattle.std.proofs.lemmas.Slice.Eq.{bytes_eq-Decides}
 use Rattle.std.proofs.lemmas.List.{take-append-drop}
 use Rattle.exporter.specs.declared.fields.Fields.{Fields}
 use Rattle.exporter.specs.declared.fields.Fields.TheVariants as fields
-use Rattle.exporter.specs.Text.{spaced}
-use Rattle.exporter.specs.Reading.{◌>>=◌, behind, after, number_at, negative, positive, negative_at, positive_at, signed_at, site_at, inverter_at, begin_at, link_at, ask_at, tick_at, fields_at}
+use Rattle.exporter.specs.Text.{words_text}
+use Rattle.exporter.specs.Reading.{◌>>=◌, reading, rest_after, number_at, negative_of, positive_of, negative_at, positive_at, signed_at, site_at, inverter_at, begin_at, link_at, ask_at, tick_at, fields_at}
 use Rattle.exporter.proofs.Decimals.{number_takes, chosen, some, some_is}
 
 -- the value of a step that gave one
@@ -32,7 +32,7 @@ fields_words (fields.Ask at inverter raw) = codes "ask" ∷ decimal at ∷ decim
 fields_words (fields.Tick at) = codes "tick" ∷ decimal at ∷ []
 
 abbrev pub fields_text : Fields → List ℕ
-fields_text numbers = spaced (fields_words numbers)
+fields_text numbers = words_text (fields_words numbers)
 
 -- a reading behind the first word takes a line's other words
 abbrev TakesBehind : List ℕ → (List ℕ → Option (Fields × List ℕ)) → Type 0
@@ -81,7 +81,7 @@ ask_takes bytes x e =
 
 -- ---- signed numbers
 
-after_is : (text bytes rest : List ℕ) → after text bytes ≡ Some rest → bytes ≡ text ++ rest
+after_is : (text bytes rest : List ℕ) → rest_after text bytes ≡ Some rest → bytes ≡ text ++ rest
 after_is text bytes rest e =
     elim (chosen (bytes_eq (take (length text) bytes) text) (Some (drop (length text) bytes)) None (Some rest) e) [
       | inl is ↦
@@ -91,14 +91,14 @@ after_is text bytes rest e =
       | inr not ↦ absurd cc
     ]
 
-behind_is : {X : Type 0} (o : Option (List ℕ)) (read : List ℕ → Option X) (other : Option X) (y : X) → behind o read other ≡ Some y → ((rest : List ℕ) × (o ≡ Some rest) × (read rest ≡ Some y)) ⊎ (other ≡ Some y)
+behind_is : {X : Type 0} (o : Option (List ℕ)) (read : List ℕ → Option X) (other : Option X) (y : X) → reading o read other ≡ Some y → ((rest : List ℕ) × (o ≡ Some rest) × (read rest ≡ Some y)) ⊎ (other ≡ Some y)
 behind_is (Some rest) read other y e = inl (rest, refl, e)
 behind_is None read other y e = inr e
 
 same_parts : (word word' rest rest' : List ℕ) (end : ℕ) → word ≡ word' → rest ≡ rest' → word ++ end ∷ rest ≡ word' ++ end ∷ rest'
 same_parts word word' rest rest' end w r = ap (λ (x : List ℕ). x ++ end ∷ rest) w ∙ ap (λ (x : List ℕ). word' ++ end ∷ x) r
 
-negative_is : (size : ℕ) (z : ℤ) → negative size ≡ Some z → signed_decimal z ≡ 45 ∷ decimal size
+negative_is : (size : ℕ) (z : ℤ) → negative_of size ≡ Some z → signed_decimal z ≡ 45 ∷ decimal size
 negative_is size z e =
     elim (chosen (eqb size 0 || ltb 32768 size) None (Some (negsuc (size - 1))) (Some z) e) [
       | inl bad ↦ absurd cc
@@ -107,7 +107,7 @@ negative_is size z e =
           rw (← some_is (negsuc (size - 1)) z good.1, some_size) refl
     ]
 
-positive_is : (size : ℕ) (z : ℤ) → positive size ≡ Some z → signed_decimal z ≡ decimal size
+positive_is : (size : ℕ) (z : ℤ) → positive_of size ≡ Some z → signed_decimal z ≡ decimal size
 positive_is size z e =
     elim (chosen (ltb 32767 size) None (Some (pos size)) (Some z) e) [
       | inl bad ↦ absurd cc
@@ -117,10 +117,10 @@ positive_is size z e =
 signed_takes : (end : ℕ) (bytes : List ℕ) (z : ℤ) (rest : List ℕ) → signed_at end bytes ≡ Some (z, rest) → bytes ≡ signed_decimal z ++ end ∷ rest
 unfolding signed_at negative_at positive_at
 signed_takes end bytes z rest e =
-    elim (behind_is (after (codes "-") bytes) (negative_at end) (positive_at end bytes) (z, rest) e) [
+    elim (behind_is (rest_after (codes "-") bytes) (negative_at end) (positive_at end bytes) (z, rest) e) [
       | inl below ↦
           let a = bind_some (number_at end below.0) _ (z, rest) below.2 in
-          let b = bind_some (negative a.0.0) (λ number. Some (number, a.0.1)) (z, rest) a.2 in
+          let b = bind_some (negative_of a.0.0) (λ number. Some (number, a.0.1)) (z, rest) a.2 in
           let n = number_takes end below.0 a.0.0 a.0.1 a.1 in
           let same = some_is (b.0, a.0.1) (z, rest) b.2 in
           let spelled : signed_decimal z ≡ 45 ∷ decimal a.0.0 = ap (λ (p : ℤ × List ℕ). signed_decimal p.0) (sym same) ∙ negative_is a.0.0 b.0 b.1 in
@@ -128,7 +128,7 @@ signed_takes end bytes z rest e =
           after_is (codes "-") bytes below.0 below.1 ∙ ap (λ (x : List ℕ). 45 ∷ x) n.parts ∙ same_parts (45 ∷ decimal a.0.0) (signed_decimal z) a.0.1 rest end (sym spelled) rest-is
       | inr above ↦
           let a = bind_some (number_at end bytes) _ (z, rest) above in
-          let b = bind_some (positive a.0.0) (λ number. Some (number, a.0.1)) (z, rest) a.2 in
+          let b = bind_some (positive_of a.0.0) (λ number. Some (number, a.0.1)) (z, rest) a.2 in
           let n = number_takes end bytes a.0.0 a.0.1 a.1 in
           let same = some_is (b.0, a.0.1) (z, rest) b.2 in
           let spelled : signed_decimal z ≡ decimal a.0.0 = ap (λ (p : ℤ × List ℕ). signed_decimal p.0) (sym same) ∙ positive_is a.0.0 b.0 b.1 in
@@ -160,7 +160,7 @@ site_takes bytes x e =
     let d = bind_some (number_at 32 c.0.1) _ x c.2 in
     let f = bind_some (number_at 32 d.0.1) _ x d.2 in
     let g = bind_some (number_at 32 f.0.1) _ x f.2 in
-    let p = bind_some (after (codes "open ") g.0.1) _ x g.2 in
+    let p = bind_some (rest_after (codes "open ") g.0.1) _ x g.2 in
     let h = bind_some (number_at 10 p.0) (λ room. Some (fields.Site a.0.0 b.0.0 c.0.0 d.0.0 f.0.0 g.0.0 room.0, room.1)) x p.2 in
     let room = number_takes 10 p.0 h.0.0 h.0.1 h.1 in
     let t7 = ended p.0 (decimal h.0.0) h.0.1 10 room.parts in
@@ -178,17 +178,17 @@ site_takes bytes x e =
 pub fields_take : (bytes : List ℕ) (x : Fields × List ℕ) → fields_at bytes ≡ Some x → bytes ≡ fields_text x.0 ++ x.1
 unfolding fields_at
 fields_take bytes x e =
-    elim (behind_is (after (codes "tick ") bytes) tick_at _ x e) [
+    elim (behind_is (rest_after (codes "tick ") bytes) tick_at _ x e) [
       | inl at ↦ after_is (codes "tick ") bytes at.0 at.1 ∙ tick_takes at.0 x at.2
-      | inr e1 ↦ elim (behind_is (after (codes "ask ") bytes) ask_at _ x e1) [
+      | inr e1 ↦ elim (behind_is (rest_after (codes "ask ") bytes) ask_at _ x e1) [
         | inl at ↦ after_is (codes "ask ") bytes at.0 at.1 ∙ ask_takes at.0 x at.2
-        | inr e2 ↦ elim (behind_is (after (codes "link ") bytes) link_at _ x e2) [
+        | inr e2 ↦ elim (behind_is (rest_after (codes "link ") bytes) link_at _ x e2) [
           | inl at ↦ after_is (codes "link ") bytes at.0 at.1 ∙ link_takes at.0 x at.2
-          | inr e3 ↦ elim (behind_is (after (codes "inverter ") bytes) inverter_at _ x e3) [
+          | inr e3 ↦ elim (behind_is (rest_after (codes "inverter ") bytes) inverter_at _ x e3) [
             | inl at ↦ after_is (codes "inverter ") bytes at.0 at.1 ∙ inverter_takes at.0 x at.2
-            | inr e4 ↦ elim (behind_is (after (codes "site ") bytes) site_at _ x e4) [
+            | inr e4 ↦ elim (behind_is (rest_after (codes "site ") bytes) site_at _ x e4) [
               | inl at ↦ after_is (codes "site ") bytes at.0 at.1 ∙ site_takes at.0 x at.2
-              | inr e5 ↦ elim (behind_is (after (codes "begin ") bytes) begin_at None x e5) [
+              | inr e5 ↦ elim (behind_is (rest_after (codes "begin ") bytes) begin_at None x e5) [
                 | inl at ↦ after_is (codes "begin ") bytes at.0 at.1 ∙ begin_takes at.0 x at.2
                 | inr none ↦ absurd cc
               ]

@@ -1,14 +1,20 @@
--- How the program ends: the status of each end, the words that it takes, and the cause of each end.
-use Rattle.std.specs.Prelude.{◌≡◌, ℕ, ◌<◌, ◌≤◌, List, [], ◌∷◌, length, Option, IfSome, codes}
-use Rattle.std.specs.Io.KnownBytes.{Appends, Keeps}
-use Rattle.world_traits.specs.Causes.{Rose}
-use Rattle.exporter.specs.declared.input.TheConstants.{INPUT_MAX}
+-- How the program ends: the words that it takes, how each end is shown, and what each end of a command says.
+use Rattle.std.specs.Prelude.{◌≡◌, ℕ, List, [], ◌∷◌, ◌++◌, codes}
+use Rattle.std.specs.Fmt.{decimal}
+use Rattle.exporter.specs.declared.ended.LineKind.{LineKind}
 use Rattle.exporter.specs.declared.ended.LineKind.TheVariants as kinds
 use Rattle.exporter.specs.declared.ended.Ended.{Ended}
 use Rattle.exporter.specs.declared.ended.Ended.TheVariants as ends
 use Rattle.exporter.specs.Script.{LeavesFormAt}
-use Rattle.exporter.specs.Streams.{AppendsFront}
+use Rattle.exporter.specs.Replay.{IsReplay}
+use Rattle.exporter.specs.Streams.{input_limit, Change, Fails, ReadsFront, ReadsWhole, ReadsBeyond}
+use Rattle.exporter.specs.Streams.{GainsText, GainsFront, GainsNothing}
 
+-- the words are the one that asks for a replay
+abbrev pub AreReplay : List (List ℕ) → Type 0
+AreReplay words = words ≡ codes "replay" ∷ []
+
+-- the status of an end
 abbrev pub status_of : Ended → ℕ
 status_of ends.Done = 0
 status_of ends.BadWords = 2
@@ -18,48 +24,40 @@ status_of ends.WriteFault = 7
 status_of ends.NoMemory = 8
 status_of (ends.TooLong limit) = 9
 
--- the words are the one that asks for a replay
-abbrev pub AreReplay : List (List ℕ) → Type 0
-AreReplay words = words ≡ codes "replay" ∷ []
+abbrev pub kind_text : LineKind → List ℕ
+kind_text kinds.Form = codes "form"
+kind_text kinds.Inverter = codes "inverter"
+kind_text kinds.Time = codes "time"
+kind_text kinds.Value = codes "value"
 
--- Why a replay ended before it wrote: the source failed in this call, its bytes leave the form of a script first at
--- this line, it gave a byte beyond the limit, or memory ran out.
-abbrev pub EndsBy : Ended → ℕ → ℕ → Option (List ℕ) → Type 0
-EndsBy ends.ReadFault before now told = Rose before now
-EndsBy (ends.BadLine line kind) before now told = (kind ≡ kinds.Form) × IfSome told (λ bytes. LeavesFormAt bytes line)
-EndsBy (ends.TooLong limit) before now told = (limit ≡ INPUT_MAX) × IfSome told (λ bytes. INPUT_MAX < length bytes)
-EndsBy ends.NoMemory before now told = Unit {0}
-EndsBy ends.Done before now told = ⊥
-EndsBy ends.BadWords before now told = ⊥
-EndsBy ends.WriteFault before now told = ⊥
+-- the line on standard error
+abbrev pub end_text : Ended → List ℕ
+end_text ends.Done = codes "done"
+end_text ends.BadWords = codes "bad words"
+end_text (ends.BadLine line kind) = codes "line " ++ decimal line ++ codes ": " ++ kind_text kind
+end_text ends.ReadFault = codes "read fault"
+end_text ends.WriteFault = codes "write fault"
+end_text ends.NoMemory = codes "no memory"
+end_text (ends.TooLong limit) = codes "too long: " ++ decimal limit
 
--- the input is within its limit, where this end tells that it was read to its end
-abbrev pub IsWithin : Ended → Option (List ℕ) → Type 0
-IsWithin ends.Done told = IfSome told (λ bytes. length bytes ≤ INPUT_MAX)
-IsWithin (ends.BadLine line kind) told = IfSome told (λ bytes. length bytes ≤ INPUT_MAX)
-IsWithin ends.WriteFault told = IfSome told (λ bytes. length bytes ≤ INPUT_MAX)
-IsWithin _ told = Unit {0}
+-- what an end says: why it came, what was read of the input, and what the output gained
+pub record End (Cause Read Gained : Type 0) : Type 0 where
+  pub cause : Cause
+  pub read : Read
+  pub gained : Gained
 
--- what the known bytes of the output gained: at the end Done such a text, and at WriteFault a front of one
-abbrev pub Gains : Ended → Option (List ℕ) → Option (List ℕ) → (List ℕ → Type 0) → Type 0
-Gains ends.Done old new IsText = (text : List ℕ) × IsText text × Appends old new text
-Gains ends.WriteFault old new IsText = (text : List ℕ) × IsText text × AppendsFront old new text
-Gains _ old new IsText = Unit {0}
-
--- the known bytes of the output are those before, unless all or a front of a text was written
-abbrev pub GainsNothing : Ended → Option (List ℕ) → Option (List ℕ) → Type 0
-GainsNothing ends.Done old new = Unit {0}
-GainsNothing ends.WriteFault old new = Unit {0}
-GainsNothing _ old new = Keeps old new
-
--- the end is Done or want of memory
-abbrev pub IsDoneOrShort : Ended → Type 0
-IsDoneOrShort ends.Done = Unit {0}
-IsDoneOrShort ends.NoMemory = Unit {0}
-IsDoneOrShort _ = ⊥
-
--- why the bytes of an input gave no text
-abbrev pub EndsScript : Ended → List ℕ → Type 0
-EndsScript (ends.BadLine line kind) bytes = (kind ≡ kinds.Form) × LeavesFormAt bytes line
-EndsScript ends.NoMemory bytes = Unit {0}
-EndsScript _ bytes = ⊥
+-- The ends of `replay`, each with what it says of the bytes that were read. It has no others.
+abbrev pub IsReplayEnd : Ended → List ℕ → Change → Change → Type 0
+IsReplayEnd ends.Done read input output =
+    End (Unit {0}) (ReadsWhole read input) (GainsText (IsReplay read) output)
+IsReplayEnd (ends.BadLine line kind) read input output =
+    End ((kind ≡ kinds.Form) × LeavesFormAt read line) (ReadsWhole read input) (GainsNothing output)
+IsReplayEnd ends.ReadFault read input output =
+    End (Fails input) (ReadsFront read input) (GainsNothing output)
+IsReplayEnd ends.WriteFault read input output =
+    End (Fails output) (ReadsWhole read input) (GainsFront (IsReplay read) output)
+IsReplayEnd ends.NoMemory read input output =
+    End (Unit {0}) (ReadsFront read input) (GainsNothing output)
+IsReplayEnd (ends.TooLong limit) read input output =
+    End (limit ≡ input_limit) (ReadsBeyond read input) (GainsNothing output)
+IsReplayEnd _ read input output = ⊥

@@ -11,7 +11,8 @@ use Rattle.exporter.specs.declared.script.Script.{Script}
 use Rattle.exporter.specs.declared.script.ScriptFault.{ScriptFault}
 use Rattle.exporter.specs.declared.script.ScriptFault.TheVariants as faults
 use Rattle.exporter.specs.Text.{line_text}
-use Rattle.exporter.specs.Script.{sites_of, units_of, starts_of, calls_of, site_with, last_moment, MayFollow, IsScript, LeavesFormAt}
+use Rattle.exporter.specs.Script.{sites_of, units_of, starts_of, calls_of, site_with, last_moment}
+use Rattle.exporter.specs.Script.{MayFollow, IsScript, LeavesFormAt}
 
 -- the script holds what these lines tell
 pub record Holds (before : List Line) (script : Script) : Type 0 where
@@ -22,27 +23,35 @@ pub record Holds (before : List Line) (script : Script) : Type 0 where
 
 -- the place of a call behind these, in a book of this room, so many inverters and this start
 abbrev pub IsNextCall : ℕ → ℕ → ℕ → List Call → Call → Type 0
-IsNextCall room units start before call = IfSome (named call) (λ inverter. inverter < units) × (last_moment start before ≤ moment call) × (length before < room)
+IsNextCall room units start before call =
+    IfSome (named call) (λ inverter. inverter < units)
+    × (last_moment start before ≤ moment call)
+    × (length before < room)
 
 -- the place of a line behind those that the script holds
 abbrev pub FitsIn : Script → Line → Type 0
 FitsIn script (lines.Site site) = script.site ≡ None
-FitsIn script (lines.Inverter unit) = (site : site_line.SiteLine) × (script.site ≡ Some site) × (script.start ≡ None)
-FitsIn script (lines.Begin start) = (site : site_line.SiteLine) × (script.site ≡ Some site) × (script.start ≡ None)
+FitsIn script (lines.Inverter unit) =
+    (site : site_line.SiteLine) × (script.site ≡ Some site) × (script.start ≡ None)
+FitsIn script (lines.Begin start) =
+    (site : site_line.SiteLine) × (script.site ≡ Some site) × (script.start ≡ None)
     × IsOpenable (site_with site script.units.items)
-FitsIn script (lines.Call call) = (site : site_line.SiteLine) × (script.site ≡ Some site) × (start : ℕ) × (script.start ≡ Some start)
+FitsIn script (lines.Call call) =
+    (site : site_line.SiteLine) × (script.site ≡ Some site) × (start : ℕ) × (script.start ≡ Some start)
     × IsNextCall site.room (length script.units.items) start script.calls.items call
 
 -- The bytes begin with a line that goes in: the script is as before, with it.
 pub record TakesLine (old new : Script) (bytes rest : List ℕ) : Type 0 where
   pub line : Line
-  pub spelled : bytes ≡ line_text line ++ rest
+  pub spelling : bytes ≡ line_text line ++ rest
   pub fits : (before : List Line) → Holds before old → MayFollow before line
-  pub held : (before : List Line) → Holds before old → Holds (before ++ line ∷ []) new
+  pub holds : (before : List Line) → Holds before old → Holds (before ++ line ∷ []) new
 
 -- no line that may follow stands at the front of the bytes
 abbrev pub TakesNone : Script → List ℕ → Type 0
-TakesNone old bytes = (before : List Line) → Holds before old → (line : Line) (more : List ℕ) → MayFollow before line → bytes ≡ line_text line ++ more → ⊥
+TakesNone old bytes =
+    (before : List Line) → Holds before old
+    → (line : Line) (more : List ℕ) → MayFollow before line → bytes ≡ line_text line ++ more → ⊥
 
 -- the line of this number is at fault where no line was taken
 abbrev pub Stops : ScriptFault → ℕ → Script → List ℕ → Type 0
@@ -53,7 +62,7 @@ Stops (faults.BadLine line) number old bytes = (line ≡ number) × TakesNone ol
 pub record ScriptOf (bytes : List ℕ) (script : Script) : Type 0 where
   pub lines : List Line
   pub is_script : IsScript bytes lines
-  pub held : Holds lines script
+  pub holds : Holds lines script
 
 -- why the bytes give no script
 abbrev pub Explains : ScriptFault → List ℕ → Type 0

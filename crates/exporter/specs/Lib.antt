@@ -1,3 +1,4 @@
+pub mod Ranges
 pub mod Text
 pub mod Script
 pub mod Replay

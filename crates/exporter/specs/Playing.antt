@@ -1,7 +1,6 @@
 -- Scripts that a ledger can play, and what it then keeps.
 use Rattle.std.specs.Prelude.{◌≡◌, ℕ, ◌≤◌, List, [], ◌∷◌, ◌++◌, length, map, Some}
 use Rattle.plant_book.specs.declared.call.Call.{Call}
-use Rattle.plant_book.specs.declared.call.TheConstants.{MOMENT_MAX}
 use Rattle.plant_book.specs.declared.book.Entry.{Entry}
 use Rattle.plant_book.specs.Site.{inverters}
 use Rattle.plant_book.specs.Book.{BookRecord}
@@ -11,27 +10,30 @@ use Rattle.plant_book.specs.History.{commissioned}
 use Rattle.plant_book.specs.Safe.{IsSafeAlways}
 use Rattle.exporter.specs.declared.line.SiteLine as site_line
 use Rattle.exporter.specs.declared.script.Script.{Script}
+use Rattle.exporter.specs.Ranges.{moment_most}
 use Rattle.exporter.specs.Script.{site_with}
 use Rattle.exporter.specs.Holding.{IsNextCall}
 
 -- a call that a ledger with this room, so many inverters and this start takes behind these calls
 pub record CallFits (room units start : ℕ) (before : List Call) (call : Call) : Type 0 where
-  pub built : IsBuilt call
-  pub moment_high : moment call ≤ MOMENT_MAX
+  pub is_built : IsBuilt call
+  pub moment_high : moment call ≤ moment_most
   pub next : IsNextCall room units start before call
 
 abbrev pub EachFits : ℕ → ℕ → ℕ → List Call → List Call → Type 0
 EachFits room units start before [] = Unit {0}
-EachFits room units start before (call ∷ later) = CallFits room units start before call × EachFits room units start (before ++ call ∷ []) later
+EachFits room units start before (call ∷ later) =
+    CallFits room units start before call
+    × EachFits room units start (before ++ call ∷ []) later
 
 -- a whole script, whose calls fit
-pub record Playable (script : Script) : Type 0 where
+pub record IsPlayable (script : Script) : Type 0 where
   pub site : site_line.SiteLine
   pub site_is : script.site ≡ Some site
   pub start : ℕ
   pub start_is : script.start ≡ Some start
-  pub start_high : start ≤ MOMENT_MAX
-  pub openable : IsOpenable (site_with site script.units.items)
+  pub start_high : start ≤ moment_most
+  pub is_openable : IsOpenable (site_with site script.units.items)
   pub calls : EachFits site.room (length script.units.items) start [] script.calls.items
 
 -- the calls of entries
@@ -46,11 +48,11 @@ FitBehind book later = EachFits book.site.room (inverters book.site) book.start 
 pub record Enters (old new : BookRecord) (later : List Call) : Type 0 where
   pub site : new.site ≡ old.site
   pub start : new.start ≡ old.start
-  pub entered : calls_in new.entries ≡ calls_in old.entries ++ later
+  pub calls : calls_in new.entries ≡ calls_in old.entries ++ later
 
 -- a book of right replies, safe at every moment of its life
 pub record IsSafeBook (book : BookRecord) : Type 0 where
-  pub kept : IsBook book
+  pub is_book : IsBook book
   pub safe : IsSafeAlways (commissioned book)
 
 -- the book of a script
@@ -58,6 +60,6 @@ pub record Keeps (script : Script) (book : BookRecord) : Type 0 where
   pub is_book : IsSafeBook book
   pub site : site_line.SiteLine
   pub site_is : script.site ≡ Some site
-  pub site_kept : book.site ≡ site_with site script.units.items
-  pub start_kept : script.start ≡ Some book.start
-  pub calls_kept : calls_in book.entries ≡ script.calls.items
+  pub book_site : book.site ≡ site_with site script.units.items
+  pub book_start : script.start ≡ Some book.start
+  pub book_calls : calls_in book.entries ≡ script.calls.items

@@ -2,6 +2,6 @@
 use Rattle.std.specs.Prelude.{ℕ, List, [], ◌∷◌, ◌++◌}
 
 -- each word with a space behind it
-abbrev pub opened : List (List ℕ) → List ℕ
-opened [] = []
-opened (word ∷ more) = word ++ 32 ∷ opened more
+abbrev pub words_front : List (List ℕ) → List ℕ
+words_front [] = []
+words_front (word ∷ more) = word ++ 32 ∷ words_front more

@@ -1,6 +1,7 @@
--- How a line is read from the front of bytes: its numbers, and the bytes behind it. The reader computes this; that
--- it is right by the spelling of lines is proved beside it.
-use Rattle.std.specs.Prelude.{◌≡◌, ℕ, ◌+◌, ◌*◌, ◌-◌, ◌^◌, List, [], ◌∷◌, ◌++◌, length, take, drop, Option, Some, None, nat_lt, ◌==◌, ◌||◌, if◌then◌else◌, ℤ, pos, negsuc, codes}
+-- How a line is read from the front of bytes: its numbers, and the bytes behind it. The reader computes this;
+-- that it is right by the spelling of lines is proved beside it.
+use Rattle.std.specs.Prelude.{◌≡◌, ℕ, ◌+◌, ◌*◌, ◌-◌, ◌^◌, List, [], ◌∷◌, ◌++◌, length, take, drop, codes}
+use Rattle.std.specs.Prelude.{Option, Some, None, nat_lt, ◌==◌, ◌||◌, if◌then◌else◌, ℤ, pos, negsuc}
 use Rattle.std.specs.Str.{bytes_eq}
 use Rattle.exporter.specs.Text.{line_text}
 use Rattle.exporter.specs.Script.{IsLine}
@@ -27,7 +28,8 @@ digits_at end number [] = None
 digits_at end number (byte ∷ rest) =
     if byte == end then Some (number, rest)
     else if nat_lt byte 48 || nat_lt 57 byte then None
-    else if nat_lt (number * 10 + (byte - 48)) (2 ^ 64) then digits_at end (number * 10 + (byte - 48)) rest else None
+    else if nat_lt (number * 10 + (byte - 48)) (2 ^ 64) then digits_at end (number * 10 + (byte - 48)) rest
+    else None
 
 -- the end byte
 abbrev pub end_at : ℕ → List ℕ → Option (ℕ × List ℕ)
@@ -43,37 +45,39 @@ number_at end (byte ∷ rest) =
     else digits_at end (byte - 48) rest
 
 -- the number below zero of this size, which isn't 0, in 16 bits
-abbrev pub negative : ℕ → Option ℤ
-negative size = if size == 0 || nat_lt 32768 size then None else Some (negsuc (size - 1))
+abbrev pub negative_of : ℕ → Option ℤ
+negative_of size = if size == 0 || nat_lt 32768 size then None else Some (negsuc (size - 1))
 
 -- the number from zero on of this size in 16 bits
-abbrev pub positive : ℕ → Option ℤ
-positive size = if nat_lt 32767 size then None else Some (pos size)
+abbrev pub positive_of : ℕ → Option ℤ
+positive_of size = if nat_lt 32767 size then None else Some (pos size)
 
 -- the bytes behind a text
-abbrev pub after : List ℕ → List ℕ → Option (List ℕ)
-after text bytes = if bytes_eq (take (length text) bytes) text then Some (drop (length text) bytes) else None
+abbrev pub rest_after : List ℕ → List ℕ → Option (List ℕ)
+rest_after text bytes =
+    if bytes_eq (take (length text) bytes) text then Some (drop (length text) bytes)
+    else None
 
 -- what stands behind a first word, or else what other reading finds
-abbrev pub behind : {X : Type 0} → Option (List ℕ) → (List ℕ → Option X) → Option X → Option X
-behind None read other = other
-behind (Some rest) read other = read rest
+abbrev pub reading : {X : Type 0} → Option (List ℕ) → (List ℕ → Option X) → Option X → Option X
+reading None read other = other
+reading (Some rest) read other = read rest
 
 -- a number with or without a minus sign, and its end byte
 unfoldable pub negative_at : ℕ → List ℕ → Option (ℤ × List ℕ)
 negative_at end bytes = do
   size ← number_at end bytes
-  number ← negative size.0
+  number ← negative_of size.0
   Some (number, size.1)
 
 unfoldable pub positive_at : ℕ → List ℕ → Option (ℤ × List ℕ)
 positive_at end bytes = do
   size ← number_at end bytes
-  number ← positive size.0
+  number ← positive_of size.0
   Some (number, size.1)
 
 unfoldable pub signed_at : ℕ → List ℕ → Option (ℤ × List ℕ)
-signed_at end bytes = behind (after (codes "-") bytes) (negative_at end) (positive_at end bytes)
+signed_at end bytes = reading (rest_after (codes "-") bytes) (negative_at end) (positive_at end bytes)
 
 unfoldable pub site_at : List ℕ → Option (Fields × List ℕ)
 site_at bytes = do
@@ -83,7 +87,7 @@ site_at bytes = do
   timer ← number_at 32 delay.1
   per_mille ← number_at 32 timer.1
   slack ← number_at 32 per_mille.1
-  policy ← after (codes "open ") slack.1
+  policy ← rest_after (codes "open ") slack.1
   room ← number_at 10 policy
   Some (fields.Site cap.0 send.0 delay.0 timer.0 per_mille.0 slack.0 room.0, room.1)
 
@@ -121,17 +125,20 @@ tick_at bytes = do
 -- the numbers of a line
 unfoldable pub fields_at : List ℕ → Option (Fields × List ℕ)
 fields_at bytes =
-    behind (after (codes "tick ") bytes) tick_at
-    (behind (after (codes "ask ") bytes) ask_at
-    (behind (after (codes "link ") bytes) link_at
-    (behind (after (codes "inverter ") bytes) inverter_at
-    (behind (after (codes "site ") bytes) site_at
-    (behind (after (codes "begin ") bytes) begin_at None)))))
+    reading (rest_after (codes "tick ") bytes) tick_at
+    (reading (rest_after (codes "ask ") bytes) ask_at
+    (reading (rest_after (codes "link ") bytes) link_at
+    (reading (rest_after (codes "inverter ") bytes) inverter_at
+    (reading (rest_after (codes "site ") bytes) site_at
+    (reading (rest_after (codes "begin ") bytes) begin_at None)))))
 
 -- the numbers of a line, of the calls that are built so far
 abbrev pub fields_of : Line → Option Fields
-fields_of (lines.Site site) = Some (fields.Site site.cap site.rules.send site.rules.delay site.rules.timer site.rules.per_mille site.rules.slack site.room)
-fields_of (lines.Inverter unit) = Some (fields.Inverter unit.rating.wmax unit.rating.wsf unit.rating.psf unit.floor)
+fields_of (lines.Site site) =
+    let rules = site.rules in
+    Some (fields.Site site.cap rules.send rules.delay rules.timer rules.per_mille rules.slack site.room)
+fields_of (lines.Inverter unit) =
+    Some (fields.Inverter unit.rating.wmax unit.rating.wsf unit.rating.psf unit.floor)
 fields_of (lines.Begin start) = Some (fields.Begin start)
 fields_of (lines.Call (calls.Link at inverter)) = Some (fields.Link at inverter)
 fields_of (lines.Call (calls.Ask at inverter raw)) = Some (fields.Ask at inverter raw)

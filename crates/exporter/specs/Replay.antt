@@ -19,13 +19,13 @@ pub record Tells (script : List Line) (site : SiteRecord) (start : ℕ) (calls :
   pub starts : starts_of script ≡ start ∷ []
   pub calls_are : calls_of script ≡ calls
 
--- This text is that of the book of the script that the bytes spell. Each of its replies is right, and the life is
--- safe at every moment, whatever the inverters did that follow the timed device.
+-- This text is that of the book of the script that the bytes spell. Each of its replies is right, and the
+-- life is safe at every moment, whatever the inverters did that follow the timed device.
 pub record IsReplay (bytes text : List ℕ) : Type 0 where
   pub lines : List Line
   pub is_script : IsScript bytes lines
   pub book : BookRecord
   pub is_book : IsBook book
   pub safe : IsSafeAlways (commissioned book)
-  pub told : Tells lines book.site book.start (map (λ entry. entry.call) book.entries)
-  pub printed : text ≡ book_text book
+  pub tells : Tells lines book.site book.start (map (λ entry. entry.call) book.entries)
+  pub text_is : text ≡ book_text book

@@ -5,13 +5,13 @@ use Rattle.plant_book.specs.declared.site.Policy.TheVariants as policies
 use Rattle.plant_book.specs.declared.site.Unit as unit
 use Rattle.plant_book.specs.declared.call.Call.{Call}
 use Rattle.plant_book.specs.declared.call.Call.TheVariants as calls
-use Rattle.plant_book.specs.declared.call.TheConstants.{MOMENT_MAX}
 use Rattle.plant_book.specs.Site.{SiteRecord}
 use Rattle.plant_book.specs.Calls.{moment, named}
 use Rattle.plant_book.specs.Answered.{IsOpenable, IsBuilt}
 use Rattle.exporter.specs.declared.line.SiteLine as site
 use Rattle.exporter.specs.declared.line.Line.{Line}
 use Rattle.exporter.specs.declared.line.Line.TheVariants as lines
+use Rattle.exporter.specs.Ranges.{moment_most}
 use Rattle.exporter.specs.Text.{line_text}
 
 -- the numbers of a call fit their types
@@ -20,13 +20,13 @@ FitsCall (calls.Link at inverter) = inverter < 2 ^ 8
 FitsCall (calls.Ask at inverter raw) = (inverter < 2 ^ 8) × (raw < 2 ^ 16)
 FitsCall _ = Unit {0}
 
--- A line whose values are in their ranges, of the calls that are built so far. The numbers of a site line, and the
--- rating and the floor of an inverter, are in theirs by their types.
+-- A line whose values are in their ranges, of the calls that are built so far. The numbers of a site line,
+-- and the rating and the floor of an inverter, are in theirs by their types.
 abbrev pub IsLine : Line → Type 0
 IsLine (lines.Site site) = Unit {0}
 IsLine (lines.Inverter unit) = unit.floor < 2 ^ 16
-IsLine (lines.Begin start) = start ≤ MOMENT_MAX
-IsLine (lines.Call call) = IsBuilt call × FitsCall call × (moment call ≤ MOMENT_MAX)
+IsLine (lines.Begin start) = start ≤ moment_most
+IsLine (lines.Call call) = IsBuilt call × FitsCall call × (moment call ≤ moment_most)
 
 abbrev pub site_on : Line → List site.SiteLine
 site_on (lines.Site site) = site ∷ []
@@ -64,18 +64,29 @@ last_moment start (call ∷ more) = last_moment (moment call) more
 
 -- the site of a site line and inverters
 abbrev pub site_with : site.SiteLine → List unit.Unit → SiteRecord
-site_with site units = record { cap = site.cap; rules = site.rules; policy = policies.Open; room = site.room; units = units }
+site_with site units = record {
+  cap = site.cap;
+  rules = site.rules;
+  policy = policies.Open;
+  room = site.room;
+  units = units;
+}
 
--- The place of a line behind these lines: the one site first, then inverters, then the one begin, of a book that
--- can be opened, then calls: each of an inverter of the site, no earlier than the line before, and no more than
--- there is room for.
+-- The place of a line behind these lines: the one site first, then inverters, then the one begin, of a book
+-- that can be opened, then calls: each of an inverter of the site, no earlier than the line before, and no
+-- more than there is room for.
 abbrev pub HasPlace : List Line → Line → Type 0
 HasPlace before (lines.Site site) = sites_of before ≡ []
-HasPlace before (lines.Inverter unit) = (site : site.SiteLine) × (sites_of before ≡ site ∷ []) × (starts_of before ≡ [])
-HasPlace before (lines.Begin start) = (site : site.SiteLine) × (sites_of before ≡ site ∷ []) × (starts_of before ≡ [])
+HasPlace before (lines.Inverter unit) =
+    (site : site.SiteLine) × (sites_of before ≡ site ∷ []) × (starts_of before ≡ [])
+HasPlace before (lines.Begin start) =
+    (site : site.SiteLine) × (sites_of before ≡ site ∷ []) × (starts_of before ≡ [])
     × IsOpenable (site_with site (units_of before))
-HasPlace before (lines.Call call) = (site : site.SiteLine) × (sites_of before ≡ site ∷ []) × (start : ℕ) × (starts_of before ≡ start ∷ [])
-    × IfSome (named call) (λ inverter. inverter < length (units_of before)) × (last_moment start (calls_of before) ≤ moment call)
+HasPlace before (lines.Call call) =
+    (site : site.SiteLine) × (sites_of before ≡ site ∷ [])
+    × (start : ℕ) × (starts_of before ≡ start ∷ [])
+    × IfSome (named call) (λ inverter. inverter < length (units_of before))
+    × (last_moment start (calls_of before) ≤ moment call)
     × (length (calls_of before) < site.room)
 
 -- a line that may stand behind these lines
@@ -94,23 +105,23 @@ IsForm before = EachMayFollow [] before
 abbrev pub lines_text : List Line → List ℕ
 lines_text before = flat_map line_text before
 
-abbrev pub IsBegun : List Line → Type 0
-IsBegun before = (start : ℕ) × (starts_of before ≡ start ∷ [])
+abbrev pub HasBegin : List Line → Type 0
+HasBegin before = (start : ℕ) × (starts_of before ≡ start ∷ [])
 
 -- these bytes are the script of these lines: its head is whole
 pub record IsScript (bytes : List ℕ) (script : List Line) : Type 0 where
-  pub spelled : bytes ≡ lines_text script
+  pub spelling : bytes ≡ lines_text script
   pub form : IsForm script
-  pub begun : IsBegun script
+  pub has_begin : HasBegin script
 
--- The line of this number, counted from 1, is the first at which the bytes leave the form of a script: the lines
--- before it are in the form, and no line that may follow them stands behind them. At the end of the bytes this is
--- so only where no book was begun.
+-- The line of this number, counted from 1, is the first at which the bytes leave the form of a script: the
+-- lines before it are in the form, and no line that may follow them stands behind them. At the end of the
+-- bytes this is so only where no book was begun.
 pub record LeavesFormAt (bytes : List ℕ) (number : ℕ) : Type 0 where
   pub before : List Line
   pub rest : List ℕ
-  pub spelled : bytes ≡ lines_text before ++ rest
+  pub spelling : bytes ≡ lines_text before ++ rest
   pub form : IsForm before
   pub leaves : (line : Line) (more : List ℕ) → MayFollow before line → rest ≡ line_text line ++ more → ⊥
-  pub unfinished : rest ≡ [] → IsBegun before → ⊥
-  pub counted : number ≡ length before + 1
+  pub no_end : rest ≡ [] → HasBegin before → ⊥
+  pub count : number ≡ length before + 1

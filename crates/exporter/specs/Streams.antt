@@ -1,23 +1,69 @@
--- What reading a whole source and writing a whole text leave.
-use Rattle.std.specs.Prelude.{ℕ, ◌<◌, ◌≤◌, List, length, take, Option, IfSome}
+-- What a call does to a source or a sink, and what reading a whole input and writing a whole text leave.
+use Rattle.std.specs.Prelude.{◌≡◌, ℕ, ◌<◌, ◌≤◌, List, length, take, Option}
 use Rattle.std.specs.Io.KnownBytes.{Consumes, Appends, IsAtEnd}
 use Rattle.world_traits.specs.Causes.{Rose}
-use Rattle.exporter.specs.declared.input.TheConstants.{INPUT_MAX}
 use Rattle.exporter.specs.declared.input.InputFault.{InputFault}
 use Rattle.exporter.specs.declared.input.InputFault.TheVariants as faults
 
--- all bytes of the source were read, and they are no more than the limit
-pub record ReadsWhole (old new : Option (List ℕ)) (bytes : List ℕ) : Type 0 where
-  pub bytes_are : Consumes old new bytes
-  pub at_end : IsAtEnd new
-  pub within : length bytes ≤ INPUT_MAX
+-- how many bytes an input has at most
+abbrev pub input_limit : ℕ
+input_limit = 134217728
 
--- why a source was not read whole: it failed, or it gave a byte beyond the limit
-abbrev pub FailsBy : InputFault → ℕ → ℕ → Option (List ℕ) → Type 0
-FailsBy faults.Failed before now old = Rose before now
-FailsBy faults.TooLong before now old = IfSome old (λ bytes. INPUT_MAX < length bytes)
-FailsBy faults.NoMemory before now old = Unit {0}
+-- what a source or a sink tells before and after a call: its bytes, where it does, and its count of faults
+pub record Change : Type 0 where
+  pub old : Option (List ℕ)
+  pub new : Option (List ℕ)
+  pub faults_old : ℕ
+  pub faults_new : ℕ
+
+-- the change of a stream, by what it tells of its bytes and faults
+abbrev pub change : {S : Type 0} → (S → Option (List ℕ)) → (S → ℕ) → S → S → Change
+change bytes faults old new = record {
+  old = bytes old;
+  new = bytes new;
+  faults_old = faults old;
+  faults_new = faults new;
+}
+
+-- the stream failed in the call
+abbrev pub Fails : Change → Type 0
+Fails stream = Rose stream.faults_old stream.faults_new
+
+-- these bytes were read, and they are no more than an input may have
+pub record ReadsFront (read : List ℕ) (input : Change) : Type 0 where
+  pub bytes : Consumes input.old input.new read
+  pub within : length read ≤ input_limit
+
+-- these bytes were read, they are all of the input, and they are no more than it may have
+pub record ReadsWhole (read : List ℕ) (input : Change) : Type 0 where
+  pub bytes : Consumes input.old input.new read
+  pub within : length read ≤ input_limit
+  pub at_end : IsAtEnd input.new
+
+-- these bytes were read, and they are more than an input may have
+pub record ReadsBeyond (read : List ℕ) (input : Change) : Type 0 where
+  pub bytes : Consumes input.old input.new read
+  pub beyond : input_limit < length read
+
+-- why a source was not read whole, and what was read of it: it failed, it gave a byte beyond the limit, or
+-- memory ran out
+abbrev pub StopsReading : InputFault → List ℕ → Change → Type 0
+StopsReading faults.Failed read input = Fails input × ReadsFront read input
+StopsReading faults.TooLong read input = ReadsBeyond read input
+StopsReading faults.NoMemory read input = ReadsFront read input
 
 -- the known bytes grow by the first bytes of a text
 abbrev pub AppendsFront : Option (List ℕ) → Option (List ℕ) → List ℕ → Type 0
 AppendsFront old new text = (count : ℕ) × Appends old new (take count text)
+
+-- the output gained a text of this kind
+abbrev pub GainsText : (List ℕ → Type 0) → Change → Type 0
+GainsText IsText output = (text : List ℕ) × IsText text × Appends output.old output.new text
+
+-- the output gained the first bytes of a text of this kind
+abbrev pub GainsFront : (List ℕ → Type 0) → Change → Type 0
+GainsFront IsText output = (text : List ℕ) × IsText text × AppendsFront output.old output.new text
+
+-- nothing was done with the output
+abbrev pub GainsNothing : Change → Type 0
+GainsNothing output = (output.new ≡ output.old) × (output.faults_new ≡ output.faults_old)

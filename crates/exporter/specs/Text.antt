@@ -17,21 +17,27 @@ use Rattle.exporter.specs.declared.line.Line.{Line}
 use Rattle.exporter.specs.declared.line.Line.TheVariants as lines
 
 -- the words of a line, one space between two of them, and a line feed behind the last
-abbrev pub spaced : List (List ℕ) → List ℕ
-spaced [] = 10 ∷ []
-spaced (word ∷ []) = word ++ 10 ∷ []
-spaced (word ∷ next ∷ more) = word ++ 32 ∷ spaced (next ∷ more)
+abbrev pub words_text : List (List ℕ) → List ℕ
+words_text [] = 10 ∷ []
+words_text (word ∷ []) = word ++ 10 ∷ []
+words_text (word ∷ next ∷ more) = word ++ 32 ∷ words_text (next ∷ more)
 
 abbrev pub policy_word : Policy → List ℕ
 policy_word policies.Open = codes "open"
 policy_word policies.Fair = codes "fair"
 
 abbrev pub site_words : ℕ → Rules → Policy → ℕ → List (List ℕ)
-site_words cap rules policy room = codes "site" ∷ decimal cap ∷ decimal rules.send ∷ decimal rules.delay ∷ decimal rules.timer
-    ∷ decimal rules.per_mille ∷ decimal rules.slack ∷ policy_word policy ∷ decimal room ∷ []
+site_words cap rules policy room =
+    codes "site" ∷ decimal cap
+    ∷ decimal rules.send ∷ decimal rules.delay
+    ∷ decimal rules.timer ∷ decimal rules.per_mille ∷ decimal rules.slack
+    ∷ policy_word policy ∷ decimal room ∷ []
 
 abbrev pub inverter_words : unit.Unit → List (List ℕ)
-inverter_words unit = codes "inverter" ∷ decimal unit.rating.wmax ∷ signed_decimal unit.rating.wsf ∷ signed_decimal unit.rating.psf ∷ decimal unit.floor ∷ []
+inverter_words unit =
+    codes "inverter"
+    ∷ decimal unit.rating.wmax ∷ signed_decimal unit.rating.wsf ∷ signed_decimal unit.rating.psf
+    ∷ decimal unit.floor ∷ []
 
 abbrev pub begin_words : ℕ → List (List ℕ)
 begin_words start = codes "begin" ∷ decimal start ∷ []
@@ -40,8 +46,10 @@ abbrev pub call_words : Call → List (List ℕ)
 call_words (calls.Link at inverter) = codes "link" ∷ decimal at ∷ decimal inverter ∷ []
 call_words (calls.Ask at inverter raw) = codes "ask" ∷ decimal at ∷ decimal inverter ∷ decimal raw ∷ []
 call_words (calls.Read at inverter) = codes "read" ∷ decimal at ∷ decimal inverter ∷ []
-call_words (calls.Saw at inverter number raw) = codes "saw" ∷ decimal at ∷ decimal inverter ∷ decimal number ∷ decimal raw ∷ []
-call_words (calls.Back at inverter link number) = codes "back" ∷ decimal at ∷ decimal inverter ∷ decimal link ∷ decimal number ∷ []
+call_words (calls.Saw at inverter number raw) =
+    codes "saw" ∷ decimal at ∷ decimal inverter ∷ decimal number ∷ decimal raw ∷ []
+call_words (calls.Back at inverter link number) =
+    codes "back" ∷ decimal at ∷ decimal inverter ∷ decimal link ∷ decimal number ∷ []
 call_words (calls.Want at inverter mw) = codes "want" ∷ decimal at ∷ decimal inverter ∷ decimal mw ∷ []
 call_words (calls.Tick at) = codes "tick" ∷ decimal at ∷ []
 call_words (calls.Stop at) = codes "stop" ∷ decimal at ∷ []
@@ -72,16 +80,16 @@ line_words (lines.Begin start) = begin_words start
 line_words (lines.Call call) = call_words call
 
 abbrev pub line_text : Line → List ℕ
-line_text line = spaced (line_words line)
+line_text line = words_text (line_words line)
 
 -- the head of a book: its site, its inverters and the moment at which it begins
 abbrev pub head_text : SiteRecord → ℕ → List ℕ
-head_text site start = spaced (site_words site.cap site.rules site.policy site.room)
-    ++ flat_map (λ unit. spaced (inverter_words unit)) site.units ++ spaced (begin_words start)
+head_text site start = words_text (site_words site.cap site.rules site.policy site.room)
+    ++ flat_map (λ unit. words_text (inverter_words unit)) site.units ++ words_text (begin_words start)
 
 -- an entry: its call, an equals sign and its reply
 abbrev pub entry_text : Entry → List ℕ
-entry_text entry = spaced (call_words entry.call ++ codes "=" ∷ reply_words entry.reply)
+entry_text entry = words_text (call_words entry.call ++ codes "=" ∷ reply_words entry.reply)
 
 abbrev pub book_text : BookRecord → List ℕ
 book_text book = head_text book.site book.start ++ flat_map entry_text book.entries

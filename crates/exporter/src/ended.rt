@@ -1,5 +1,5 @@
-ghost use Rattle.std.specs.Prelude.{◌≡◌};
-ghost use Rattle.exporter.specs.Ends.{status_of};
+ghost use Rattle.std.specs.Prelude.{◌≡◌, Some};
+ghost use Rattle.exporter.specs.Ends.{status_of, kind_text, end_text};
 
 use std::fmt;
 use std::fmt::{Display, Formatter};
@@ -25,14 +25,23 @@ pub enum Ended {
     /// The words of the command line ask for nothing that the program does.
     BadWords,
     /// The line of this number, from 1, is the first that is at fault.
-    BadLine { line: u32, kind: LineKind },
+    BadLine {
+        /// The number of the line, from 1.
+        line: u32,
+        /// How it is at fault.
+        kind: LineKind,
+    },
     /// The input failed.
     ReadFault,
     /// The output failed.
     WriteFault,
+    /// Memory ran out.
     NoMemory,
-    /// The input has more bytes than so many.
-    TooLong { limit: u32 },
+    /// The input has more bytes than it may have.
+    TooLong {
+        /// How many bytes it may have.
+        limit: u32,
+    },
 }
 
 /// The status with which the program ends.
@@ -51,6 +60,8 @@ pub fn status(ended: &Ended) -> u8
 }
 
 impl Display for LineKind {
+    ghost output = { λ kind. Some (kind_text kind) };
+
     fn fmt<W: fmt::Write>(&self, f: &mut Formatter<W>) -> fmt::Result {
         let name = match self {
             LineKind::Form => "form",
@@ -64,6 +75,8 @@ impl Display for LineKind {
 
 /// The line on standard error.
 impl Display for Ended {
+    ghost output = { λ ended. Some (end_text ended) };
+
     fn fmt<W: fmt::Write>(&self, f: &mut Formatter<W>) -> fmt::Result {
         match self {
             Ended::Done => f.write_str("done"),

@@ -1,5 +1,6 @@
 ghost use Rattle.std.specs.Prelude.{◌≡◌};
-ghost use Rattle.exporter.specs.Reading.{Gives, site_at, inverter_at, begin_at, link_at, ask_at, tick_at, fields_at};
+ghost use Rattle.exporter.specs.Reading.{Gives, fields_at};
+ghost use Rattle.exporter.specs.Reading.{site_at, inverter_at, begin_at, link_at, ask_at, tick_at};
 
 use crate::number::{after, number, signed};
 
@@ -13,33 +14,51 @@ const LINE_END: u8 = b'\n';
 #[derive(Clone, Copy, Debug, PartialEq, Eq)]
 pub enum Fields {
     Site {
+        /// What all limits together stay under, in mW.
         cap: u64,
+        /// The send window of a frame, in ms.
         send: u64,
+        /// The delay of a frame, in ms.
         delay: u64,
+        /// The reversion timer, in s.
         timer: u64,
+        /// The tolerance of the timer, in thousandths.
         per_mille: u64,
+        /// The tolerance of the timer besides, in ms.
         slack: u64,
+        /// How many calls the book has room for.
         room: u64,
     },
     Inverter {
+        /// WMax of model 702.
         wmax: u64,
+        /// W_SF of model 702.
         wsf: i16,
+        /// WMaxLimPct_SF of model 704.
         psf: i16,
+        /// The limit to go back to, as a raw percentage.
         floor: u64,
     },
     Begin {
+        /// The moment at which the book begins, in ms.
         at: u64,
     },
     Link {
+        /// The moment of the call, in ms.
         at: u64,
+        /// The place of the inverter among the inverter lines, from 0.
         inverter: u64,
     },
     Ask {
+        /// The moment of the call, in ms.
         at: u64,
+        /// The place of the inverter among the inverter lines, from 0.
         inverter: u64,
+        /// The limit that is asked for, as a raw percentage.
         raw: u64,
     },
     Tick {
+        /// The moment of the call, in ms.
         at: u64,
     },
 }
@@ -121,8 +140,8 @@ fn tick(bytes: &[u8]) -> Option<(Fields, &[u8])>
     Some((Fields::Tick { at }, rest))
 }
 
-#[tactic(auto, unfolding(crate::specs::Reading::fields_at))]
 /// The numbers of the line at the front, and the bytes behind it.
+#[tactic(auto, unfolding(crate::specs::Reading::fields_at))]
 pub fn read_fields(bytes: &[u8]) -> Option<(Fields, &[u8])>
     ensures { Gives result (fields_at bytes.now) }
 {

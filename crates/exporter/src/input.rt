@@ -1,5 +1,5 @@
-ghost use Rattle.std.specs.Prelude.{◌≤◌, IfErr, IfOk};
-ghost use Rattle.exporter.specs.Streams.{FailsBy, ReadsWhole};
+ghost use Rattle.std.specs.Prelude.{ℕ, ◌≤◌, List, IfErr, IfOk};
+ghost use Rattle.exporter.specs.Streams.{ReadsWhole, StopsReading, change};
 
 use std::alloc::Global;
 use world_traits::Source;
@@ -7,7 +7,7 @@ use world_traits::Source;
 /// How many bytes an input has at most.
 pub const INPUT_MAX: u32 = 134_217_728;
 
-/// How many bytes are read at a time.
+/// How many bytes are read at a time, at most.
 const CHUNK: usize = 4096;
 
 /// Why an input was not read.
@@ -17,28 +17,33 @@ pub enum InputFault {
     Failed,
     /// The source gave a byte beyond the limit.
     TooLong,
+    /// Memory ran out.
     NoMemory,
 }
 
 /// Reads a source to its end.
 pub fn read_whole<S: Source>(alloc: Global, source: &mut S) -> Result<Vec<u8>, InputFault>
     ensures later { S.faults source.old ≤ S.faults source.new }
-    ensures whole { IfOk result (λ bytes. ReadsWhole (S.left source.old) (S.left source.new) bytes.items) }
-    ensures fault { IfErr result (λ fault. FailsBy fault (S.faults source.old) (S.faults source.new) (S.left source.old)) }
+    ensures whole { IfOk result (λ bytes.
+        ReadsWhole bytes.items (change S.left S.faults source.old source.new)) }
+    ensures fault { IfErr result (λ fault.
+        (read : List ℕ) × StopsReading fault read (change S.left S.faults source.old source.new)) }
 {
     let mut bytes = Vec::new(alloc);
     let mut chunk = [0; CHUNK];
     for _ in 0..=INPUT_MAX {
-        let count = source.read(&mut chunk).map_err(|_| InputFault::Failed)?;
+        let Ok(count) = source.read(&mut chunk) else {
+            return Err(InputFault::Failed);
+        };
         if count == 0 {
             return Ok(bytes);
         }
         if bytes.len() + count > INPUT_MAX as usize {
             return Err(InputFault::TooLong);
         }
-        bytes
-            .extend_from_slice(&chunk[..count])
-            .map_err(|_| InputFault::NoMemory)?;
+        if bytes.extend_from_slice(&chunk[..count]).is_err() {
+            return Err(InputFault::NoMemory);
+        }
     }
     unreachable!()
 }

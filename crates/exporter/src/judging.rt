@@ -2,6 +2,7 @@ ghost use Rattle.std.specs.Prelude.{◌≡◌, ◌≢◌, ◌≤◌, ◌<◌, �
 ghost use Rattle.limiter_num.specs.Timers.{rules_out};
 ghost use Rattle.limiter_num.specs.RatingFaults.{rating_fault};
 ghost use Rattle.limiter_num.specs.Milliwatts.{full_of};
+ghost use Rattle.exporter.specs.Ranges.{moment_most};
 ghost use Rattle.exporter.specs.declared.fields.Fields.TheVariants as fields;
 ghost use Rattle.exporter.specs.Reading.{Judges, ReadsLine};
 
@@ -13,7 +14,8 @@ use plant_book::{Call, MOMENT_MAX, Unit};
 /// The rules of these numbers, if each is in its range.
 fn rules(send: u64, delay: u64, timer: u64, per_mille: u64, slack: u64) -> Option<Rules>
     ensures { MatchOption result (rules_out send delay timer per_mille slack ≢ None)
-        (λ rules. (rules.send ≡ send) × (rules.delay ≡ delay) × (rules.timer ≡ timer) × (rules.per_mille ≡ per_mille) × (rules.slack ≡ slack)) }
+        (λ rules. (rules.send ≡ send) × (rules.delay ≡ delay) × (rules.timer ≡ timer)
+        × (rules.per_mille ≡ per_mille) × (rules.slack ≡ slack)) }
 {
     let send = u32::try_from(send).ok()?;
     let delay = u32::try_from(delay).ok()?;
@@ -23,6 +25,7 @@ fn rules(send: u64, delay: u64, timer: u64, per_mille: u64, slack: u64) -> Optio
     Rules::new(send, delay, timer, per_mille, slack).ok()
 }
 
+/// The rating of these points, if it is accepted.
 fn rating(wmax: u64, wsf: i16, psf: i16) -> Option<Rating>
     ensures { MatchOption result (wmax < 2 ^ 16 → rating_fault wmax wsf psf ≢ None)
         (λ rating. (rating.wmax ≡ wmax) × (rating.wsf ≡ wsf) × (rating.psf ≡ psf)) }
@@ -30,14 +33,17 @@ fn rating(wmax: u64, wsf: i16, psf: i16) -> Option<Rating>
     Rating::new(u16::try_from(wmax).ok()?, wsf, psf).ok()
 }
 
+/// The inverter of a rating and a floor, a raw percentage, if that isn't above the greatest.
 fn unit(rating: Rating, floor: u64) -> Option<Unit>
-    ensures { MatchOption result (floor < 2 ^ 16 → full_of rating.psf < floor) (λ unit. (unit.rating ≡ rating) × (unit.floor ≡ floor)) }
+    ensures { MatchOption result (floor < 2 ^ 16 → full_of rating.psf < floor)
+        (λ unit. (unit.rating ≡ rating) × (unit.floor ≡ floor)) }
 {
     Unit::new(rating, u16::try_from(floor).ok()?).ok()
 }
 
+/// A moment in ms, if it isn't above the greatest.
 fn moment(at: u64) -> Option<u64>
-    ensures { MatchOption result (MOMENT_MAX < at) (λ moment. (moment ≡ at) × (at ≤ MOMENT_MAX)) }
+    ensures { MatchOption result (moment_most < at) (λ moment. (moment ≡ at) × (at ≤ moment_most)) }
 {
     if at > MOMENT_MAX {
         return None;
@@ -46,7 +52,8 @@ fn moment(at: u64) -> Option<u64>
 }
 
 fn judge_site(cap: u64, rules: Rules, room: u64) -> Option<Line>
-    ensures { Judges result (fields.Site cap rules.send rules.delay rules.timer rules.per_mille rules.slack room) }
+    ensures { Judges result (fields.Site cap
+        rules.send rules.delay rules.timer rules.per_mille rules.slack room) }
 {
     Some(Line::Site(SiteLine::new(cap, rules, room)?))
 }

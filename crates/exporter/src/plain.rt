@@ -1,11 +1,14 @@
-ghost use Rattle.std.specs.Prelude.{◌≡◌, ◌↔◌, ◌<◌, ◌≤◌, ℕ, List, map, length, IsTrue, IfSome, IfOk, IfErr, OnOk};
+ghost use Rattle.std.specs.Prelude.{◌≡◌, ◌↔◌, ◌⊎◌, ◌<◌, ◌≤◌, ℕ, List, map, length};
+ghost use Rattle.std.specs.Prelude.{IsTrue, IfSome, IfOk, IfErr};
 ghost use Rattle.std.specs.String.{string_bytes};
 ghost use Rattle.std.specs.Io.KnownBytes.{IsAtEnd};
 ghost use Rattle.world_traits.specs.Causes.{Rose};
 ghost use Rattle.exporter.specs.declared.line.Line.{Line};
 ghost use Rattle.exporter.specs.Script.{IsScript, LeavesFormAt};
+ghost use Rattle.exporter.specs.Holding.{Explains};
 ghost use Rattle.exporter.specs.Replay.{IsReplay};
-ghost use Rattle.exporter.specs.Ends.{AreReplay, EndsBy, EndsScript, Gains, GainsNothing, IsDoneOrShort, IsWithin};
+ghost use Rattle.exporter.specs.Streams.{change, input_limit, GainsFront, GainsText};
+ghost use Rattle.exporter.specs.Ends.{AreReplay, IsReplayEnd};
 
 use crate::ended::{Ended, LineKind};
 use crate::input::{INPUT_MAX, InputFault, read_whole};
@@ -27,84 +30,99 @@ fn is_replay(words: &Vec<String>) -> bool
 }
 
 /// The text of the book of a script.
-fn replay_bytes(alloc: Global, bytes: &[u8]) -> Result<String, Ended>
-    requires { length bytes.now ≤ INPUT_MAX }
+fn replay_bytes(alloc: Global, bytes: &[u8]) -> Result<String, ScriptFault>
+    requires { length bytes.now ≤ input_limit }
     ensures text { IfOk result (λ text. IsReplay bytes.now (string_bytes text)) }
-    ensures cause { IfErr result (λ ended. EndsScript ended bytes.now) }
+    ensures cause { IfErr result (λ fault. Explains fault bytes.now) }
 {
-    let script = match read_script(alloc, bytes) {
-        Ok(script) => script,
-        Err(ScriptFault::BadLine(line)) => {
-            let kind = LineKind::Form;
-            return Err(Ended::BadLine { line, kind });
-        }
-        Err(ScriptFault::NoMemory) => return Err(Ended::NoMemory),
-    };
-    let Ok(plant) = play(alloc, script) else {
-        return Err(Ended::NoMemory);
-    };
-    match print_book(alloc, &plant) {
-        Ok(text) => Ok(text),
-        Err(_) => Err(Ended::NoMemory),
-    }
+    let script = read_script(alloc, bytes)?;
+    let plant = play(alloc, script)?;
+    Ok(print_book(alloc, &plant)?)
 }
 
-/// The text of the book of the script that the input gives.
-fn replay<S: Source>(alloc: Global, input: &mut S) -> Result<String, Ended>
-    ensures later { S.faults input.old ≤ S.faults input.new }
-    ensures read { OnOk result (IsAtEnd (S.left input.new)) }
-    ensures text { IfOk result (λ text. IfSome (S.left input.old) (λ bytes. IsReplay bytes (string_bytes text))) }
-    ensures cause { IfErr result (λ ended. EndsBy ended (S.faults input.old) (S.faults input.new) (S.left input.old)) }
-    ensures within { OnOk result (IfSome (S.left input.old) (λ bytes. length bytes ≤ INPUT_MAX)) }
-    ensures ended_within { IfErr result (λ ended. IsWithin ended (S.left input.old)) }
+/// Reads a script to its end, keeps its book, and writes the text of the book.
+fn replay<S: Source, O: Sink>(alloc: Global, input: &mut S, out: &mut O) -> Ended
+    ensures ends { (read : List ℕ) × IsReplayEnd result read
+        (change S.left S.faults input.old input.new) (change O.taken O.faults out.old out.new) }
+    ensures nothing { (result ≡ Ended.Done → ⊥) → (result ≡ Ended.WriteFault → ⊥) → out.new ≡ out.old }
+    ensures read_faults_stay { S.faults input.old ≤ S.faults input.new }
+    ensures write_faults_stay { O.faults out.old ≤ O.faults out.new }
 {
     let bytes = match read_whole(alloc, input) {
         Ok(bytes) => bytes,
-        Err(InputFault::Failed) => return Err(Ended::ReadFault),
-        Err(InputFault::TooLong) => return Err(Ended::TooLong { limit: INPUT_MAX }),
-        Err(InputFault::NoMemory) => return Err(Ended::NoMemory),
+        Err(InputFault::Failed) => return Ended::ReadFault,
+        Err(InputFault::TooLong) => return Ended::TooLong { limit: INPUT_MAX },
+        Err(InputFault::NoMemory) => return Ended::NoMemory,
     };
-    replay_bytes(alloc, &bytes)
+    let text = match replay_bytes(alloc, &bytes) {
+        Ok(text) => text,
+        Err(ScriptFault::BadLine(line)) => {
+            let kind = LineKind::Form;
+            return Ended::BadLine { line, kind };
+        }
+        Err(ScriptFault::NoMemory) => return Ended::NoMemory,
+    };
+    match write_whole(out, text.as_bytes()) {
+        Ok(()) => Ended::Done,
+        Err(_) => Ended::WriteFault,
+    }
 }
 
-/// Does what the words of the command line ask for, with an input and an output. `replay` reads a script to its
-/// end, keeps its book, and writes the text of the book.
+/// Does what the words of the command line ask for, with an input and an output. `replay` reads a script to
+/// its end, keeps its book, and writes the text of the book.
 pub fn plain<S: Source, O: Sink>(
     alloc: Global,
     words: &Vec<String>,
     input: &mut S,
     out: &mut O,
 ) -> Ended
-    // The words, the input and the output are at fault exactly so.
+    // The words are at fault exactly where they ask for nothing; then nothing is read.
     ensures bad_words { result ≡ Ended.BadWords ↔ (AreReplay (map string_bytes words.now.items) → ⊥) }
-    ensures bad_line { (line : ℕ) (kind : LineKind) → result ≡ Ended.BadLine line kind
-        → (kind ≡ LineKind.Form) × IfSome (S.left input.old) (λ bytes. LeavesFormAt bytes line) }
-    ensures too_long { (limit : ℕ) → result ≡ Ended.TooLong limit → (limit ≡ 134217728) × IfSome (S.left input.old) (λ bytes. limit < length bytes) }
-    ensures within { IsWithin result (S.left input.old) }
-    ensures read_fault { result ≡ Ended.ReadFault → Rose (S.faults input.old) (S.faults input.new) }
-    ensures write_fault { result ≡ Ended.WriteFault → Rose (O.faults out.old) (O.faults out.new) }
+    ensures unread { result ≡ Ended.BadWords → input.new ≡ input.old }
+
+    // What each end of `replay` says, for the bytes that were read: its cause, what was read, what was written.
+    ensures ends { AreReplay (map string_bytes words.now.items) → (read : List ℕ) × IsReplayEnd result read
+        (change S.left S.faults input.old input.new) (change O.taken O.faults out.old out.new) }
     ensures read_faults_stay { S.faults input.old ≤ S.faults input.new }
     ensures write_faults_stay { O.faults out.old ≤ O.faults out.new }
 
-    // At Done the input was read to its end, and the output gained the text of its replay; at WriteFault it gained
-    // a front of that text, and at every other end nothing.
-    ensures read { result ≡ Ended.Done → IsAtEnd (S.left input.new) }
-    ensures gained { IfSome (S.left input.old) (λ bytes. Gains result (O.taken out.old) (O.taken out.new) (IsReplay bytes)) }
-    ensures nothing { GainsNothing result (O.taken out.old) (O.taken out.new) }
+    // The causes of the ends, by the bytes that the input tells.
+    ensures bad_line { (line : ℕ) (kind : LineKind) → result ≡ Ended.BadLine line kind
+        → (kind ≡ LineKind.Form) × IfSome (S.left input.old) (λ bytes. LeavesFormAt bytes line) }
+    ensures too_long { (limit : ℕ) → result ≡ Ended.TooLong limit
+        → (limit ≡ input_limit) × IfSome (S.left input.old) (λ bytes. limit < length bytes) }
+    ensures within { (result ≡ Ended.Done)
+        ⊎ (result ≡ Ended.WriteFault)
+        ⊎ ((line : ℕ) × (kind : LineKind) × (result ≡ Ended.BadLine line kind))
+        → IfSome (S.left input.old) (λ bytes. length bytes ≤ input_limit) }
+    ensures read_fault { result ≡ Ended.ReadFault → Rose (S.faults input.old) (S.faults input.new) }
+    ensures write_fault { result ≡ Ended.WriteFault → Rose (O.faults out.old) (O.faults out.new) }
 
-    // A script is replayed, unless memory runs out, or the input or the output fails.
-    ensures complete { AreReplay (map string_bytes words.now.items) → IfSome (S.left input.old) (λ bytes. length bytes ≤ 134217728
+    // At Done the input was read to its end, and the output gained the text of its replay; at WriteFault it
+    // gained a front of that text, and at every other end nothing.
+    ensures read { result ≡ Ended.Done → IsAtEnd (S.left input.new) }
+    ensures gained { IfSome (S.left input.old) (λ bytes.
+        (result ≡ Ended.Done
+        → GainsText (IsReplay bytes) (change O.taken O.faults out.old out.new))
+        × (result ≡ Ended.WriteFault
+        → GainsFront (IsReplay bytes) (change O.taken O.faults out.old out.new))) }
+    ensures nothing { (result ≡ Ended.Done → ⊥) → (result ≡ Ended.WriteFault → ⊥) → out.new ≡ out.old }
+
+    // A script is replayed, and an input beyond its limit is too long, unless memory runs out, or the input
+    // or the output fails.
+    ensures complete { AreReplay (map string_bytes words.now.items)
+        → IfSome (S.left input.old) (λ bytes. length bytes ≤ input_limit
         → (script : List Line) → IsScript bytes script
-        → (Rose (S.faults input.old) (S.faults input.new) → ⊥) → (Rose (O.faults out.old) (O.faults out.new) → ⊥) → IsDoneOrShort result) }
+        → (Rose (S.faults input.old) (S.faults input.new) → ⊥)
+        → (Rose (O.faults out.old) (O.faults out.new) → ⊥)
+        → (result ≡ Ended.Done) ⊎ (result ≡ Ended.NoMemory)) }
+    ensures beyond { AreReplay (map string_bytes words.now.items)
+        → IfSome (S.left input.old) (λ bytes. input_limit < length bytes
+        → (Rose (S.faults input.old) (S.faults input.new) → ⊥)
+        → (result ≡ Ended.TooLong input_limit) ⊎ (result ≡ Ended.NoMemory)) }
 {
     if !is_replay(words) {
         return Ended::BadWords;
     }
-    match replay(alloc, input) {
-        Ok(text) => match write_whole(out, text.as_bytes()) {
-            Ok(()) => Ended::Done,
-            Err(_) => Ended::WriteFault,
-        },
-        Err(ended) => ended,
-    }
+    replay(alloc, input, out)
 }

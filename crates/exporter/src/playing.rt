@@ -1,5 +1,5 @@
 ghost use Rattle.std.specs.Prelude.{◌≡◌, IfOk, ◌∷◌, []};
-ghost use Rattle.exporter.specs.Playing.{Playable, FitBehind, Enters, IsSafeBook, Keeps};
+ghost use Rattle.exporter.specs.Playing.{IsPlayable, FitBehind, Enters, IsSafeBook, Keeps};
 
 use crate::script::Script;
 use limiter_num::NoMemory;
@@ -33,7 +33,7 @@ fn enter_all(plant: &mut Plant, calls: &[Call])
 
 /// Plays a script from its begin.
 pub fn play(alloc: Global, script: Script) -> Result<Plant, NoMemory>
-    requires { Playable script }
+    requires { IsPlayable script }
     ensures { IfOk result (λ plant. Keeps script plant) }
 {
     let Script {

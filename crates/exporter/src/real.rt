@@ -30,8 +30,8 @@ impl<R: Read> Source for Input<R> {
     }
 }
 
-/// A writer of the system as a sink. It counts its faults; a write that takes nothing of a piece that isn't empty is
-/// one too.
+/// A writer of the system as a sink. It counts its faults; a write that takes nothing of a piece that isn't
+/// empty is one too.
 #[derive(Drop)]
 pub struct Output<W> {
     writer: W,

@@ -1,12 +1,15 @@
-ghost use Rattle.std.specs.Prelude.{◌≡◌, ◌↔◌, ◌+◌, ◌-◌, ◌^◌, ◌<◌, ◌≤◌, List, [], ◌∷◌, ◌++◌, length, slice_get, IsTrue, OnOk, MatchResult};
+ghost use Rattle.std.specs.Prelude.{◌≡◌, ◌↔◌, ◌+◌, ◌-◌, ◌^◌, ◌<◌, ◌≤◌, List, [], ◌∷◌, ◌++◌, length};
+ghost use Rattle.std.specs.Prelude.{slice_get, IsTrue, OnOk, MatchResult};
 ghost use Rattle.std.specs.Option.{option_map_or};
 ghost use Rattle.limiter_num.specs.Rating.{mw};
 ghost use Rattle.plant_book.specs.Sums.{sum_below};
 ghost use Rattle.plant_book.specs.Calls.{named};
 ghost use Rattle.plant_book.specs.Answered.{IsOpenable};
 ghost use Rattle.exporter.specs.declared.line.Line.{Line};
+ghost use Rattle.exporter.specs.declared.script.ScriptFault.TheVariants as faults;
 ghost use Rattle.exporter.specs.Script.{site_with, last_moment};
-ghost use Rattle.exporter.specs.Holding.{Holds, IsNextCall, FitsIn, TakesLine, Stops, ScriptOf, Explains};
+ghost use Rattle.exporter.specs.Holding.{Holds, IsNextCall, FitsIn};
+ghost use Rattle.exporter.specs.Holding.{TakesLine, Stops, ScriptOf, Explains};
 
 use crate::judging::read_line;
 use crate::line::{Line, SiteLine};
@@ -17,10 +20,13 @@ use std::alloc::Global;
 /// What the lines of a script told so far.
 #[derive(Debug, Drop)]
 pub struct Script {
+    /// The numbers of the `site` line, if there was one.
     pub site: Option<SiteLine>,
+    /// The inverters, by their numbers from 0.
     pub units: Vec<Unit>,
     /// The moment in ms at which the book begins.
     pub start: Option<u64>,
+    /// The calls, in order.
     pub calls: Vec<Call>,
 }
 
@@ -29,14 +35,24 @@ pub struct Script {
 pub enum ScriptFault {
     /// The number of the first line at which they leave the form of a script, from 1.
     BadLine(u32),
+    /// Memory ran out.
     NoMemory,
+}
+
+impl From<NoMemory> for ScriptFault {
+    ghost from_gives = { λ _ fault. fault ≡ faults.NoMemory };
+
+    fn from(_: NoMemory) -> ScriptFault {
+        ScriptFault::NoMemory
+    }
 }
 
 /// The milliwatts of the floors of inverters.
 #[tactic(auto, unfolding(plant_book::specs::Sums::sum_below))]
 fn floors(units: &[Unit]) -> u128
     requires { length units.now ≤ 64 }
-    ensures { result ≡ sum_below (length units.now) (λ inverter. option_map_or (λ unit. mw unit.rating unit.floor) (slice_get units.now inverter) 0) }
+    ensures { result ≡ sum_below (length units.now) (λ inverter.
+        option_map_or (λ unit. mw unit.rating unit.floor) (slice_get units.now inverter) 0) }
 {
     let mut sum = 0;
     for unit in units {
@@ -52,8 +68,8 @@ fn is_openable(site: &SiteLine, units: &[Unit]) -> bool
     !units.is_empty() && units.len() <= INVERTERS_MAX && floors(units) <= u128::from(site.cap)
 }
 
-#[tactic(auto, unfolding(crate::specs::Script::last_moment))]
 /// The moment of the last call, or the one at which the book begins.
+#[tactic(auto, unfolding(crate::specs::Script::last_moment))]
 fn last_moment(start: u64, calls: &[Call]) -> u64
     ensures { result ≡ last_moment start calls.now }
 {
@@ -116,9 +132,11 @@ impl Script {
         }
     }
 
+    /// Adds a line that fits.
     fn add(&mut self, line: Line) -> Result<(), NoMemory>
         requires { FitsIn self.old line }
-        ensures { OnOk result ((before : List Line) → Holds before self.old → Holds (before ++ line ∷ []) self.new) }
+        ensures { OnOk result ((before : List Line) → Holds before self.old
+            → Holds (before ++ line ∷ []) self.new) }
     {
         match line {
             Line::Site(site) => self.site = Some(site),
@@ -131,7 +149,8 @@ impl Script {
 
     /// Takes the line at the front of the bytes, which has this number. Answers the bytes behind it.
     fn take_line<'a>(&mut self, bytes: &'a [u8], number: u32) -> Result<&'a [u8], ScriptFault>
-        ensures { MatchResult result (λ rest. TakesLine self.old self.new bytes.now rest.now) (λ fault. Stops fault number self.old bytes.now) }
+        ensures { MatchResult result (λ rest. TakesLine self.old self.new bytes.now rest.now)
+            (λ fault. Stops fault number self.old bytes.now) }
     {
         let Some((line, rest)) = read_line(bytes) else {
             return Err(ScriptFault::BadLine(number));

@@ -1,8 +1,9 @@
 ghost use Rattle.std.specs.Prelude.{◌≡◌, ◌++◌, OnOk, IfOk};
 ghost use Rattle.std.specs.String.{string_bytes};
 ghost use Rattle.std.specs.List.{flat_map};
-ghost use Rattle.exporter.specs.Text.{spaced, site_words, inverter_words, begin_words, call_words, reply_words, head_text, entry_text, book_text};
-ghost use Rattle.exporter.specs.Printing.{opened};
+ghost use Rattle.exporter.specs.Text.{words_text, site_words, inverter_words, begin_words};
+ghost use Rattle.exporter.specs.Text.{call_words, reply_words, head_text, entry_text, book_text};
+ghost use Rattle.exporter.specs.Printing.{words_front};
 
 use limiter_num::NoMemory;
 use plant_book::{Call, Entry, Policy, Reply, Site, Unit};
@@ -11,7 +12,8 @@ use std::alloc::{AllocError, Global};
 
 /// Adds a call's words, each with a space behind it.
 fn put_call(text: &mut String, call: &Call) -> Result<(), AllocError>
-    ensures { OnOk result (string_bytes text.new ≡ string_bytes text.old ++ opened (call_words call.now)) }
+    ensures { OnOk result (string_bytes text.new ≡ string_bytes text.old
+        ++ words_front (call_words call.now)) }
 {
     match *call {
         Call::Link { at, inverter } => write!(text, "link {at} {inverter} "),
@@ -37,7 +39,8 @@ fn put_call(text: &mut String, call: &Call) -> Result<(), AllocError>
 
 /// Adds a reply as the end of a line.
 fn put_reply(text: &mut String, reply: &Reply) -> Result<(), AllocError>
-    ensures { OnOk result (string_bytes text.new ≡ string_bytes text.old ++ spaced (reply_words reply.now)) }
+    ensures { OnOk result (string_bytes text.new ≡ string_bytes text.old
+        ++ words_text (reply_words reply.now)) }
 {
     match *reply {
         Reply::Linked(link) => write!(text, "linked {link}\n"),
@@ -70,7 +73,8 @@ fn put_entry(text: &mut String, entry: &Entry) -> Result<(), AllocError>
 
 /// Adds the line of a site.
 fn put_site(text: &mut String, site: &Site) -> Result<(), AllocError>
-    ensures { OnOk result (string_bytes text.new ≡ string_bytes text.old ++ spaced (site_words site.now.cap site.now.rules site.now.policy site.now.room)) }
+    ensures { OnOk result (string_bytes text.new ≡ string_bytes text.old
+        ++ words_text (site_words site.now.cap site.now.rules site.now.policy site.now.room)) }
 {
     let rules = &site.rules;
     write!(
@@ -86,7 +90,8 @@ fn put_site(text: &mut String, site: &Site) -> Result<(), AllocError>
 
 /// Adds the line of an inverter.
 fn put_inverter(text: &mut String, unit: &Unit) -> Result<(), AllocError>
-    ensures { OnOk result (string_bytes text.new ≡ string_bytes text.old ++ spaced (inverter_words unit.now)) }
+    ensures { OnOk result (string_bytes text.new ≡ string_bytes text.old
+        ++ words_text (inverter_words unit.now)) }
 {
     let rating = &unit.rating;
     write!(
@@ -109,7 +114,8 @@ fn put_head(text: &mut String, site: &Site, start: u64) -> Result<(), AllocError
 
 /// Adds the lines of a book's entries.
 fn put_entries(text: &mut String, plant: &Plant) -> Result<(), AllocError>
-    ensures { OnOk result (string_bytes text.new ≡ string_bytes text.old ++ flat_map entry_text plant.now.entries) }
+    ensures { OnOk result (string_bytes text.new ≡ string_bytes text.old
+        ++ flat_map entry_text plant.now.entries) }
 {
     for place in 0..plant.calls() {
         put_entry(text, &plant.entry(place))?;

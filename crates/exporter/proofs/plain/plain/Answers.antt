@@ -1,7 +1,7 @@
-use Rattle.world_traits.specs.Causes.{Rose}
-use Rattle.exporter.proofs.Endings.{complete_by}
+use Rattle.exporter.specs.Streams.{change}
+use Rattle.exporter.proofs.Endings.{complete}
 use Rattle.exporter.proofs.plain.plain.Goals as goal
 
 pub returns-clause-complete : goal.returns-clause-complete
-returns-clause-complete g c = λ words. complete_by c.in-Err.ended (g.S.Source.faults c.args.input.now) (g.S.Source.faults c.replay.new.input) (g.S.Source.left c.args.input.now)
-    (Rose (g.O.Sink.faults c.args.out.now) (g.O.Sink.faults c.args.out.now)) c.in-Err.ensures.cause
+returns-clause-complete g c = λ words. complete c.replay.result (c.replay.ensures.ends).0
+    (change g.S.Source.left g.S.Source.faults c.args.input.now c.replay.new.input) (change g.O.Sink.taken g.O.Sink.faults c.args.out.now c.replay.new.out) (c.replay.ensures.ends).1

@@ -8,7 +8,7 @@ returns-then-not-fits c = (refl, takes_none c.args.self.now c.args.bytes.now c.i
 pub returns-in-Ok : goal.returns-in-Ok
 returns-in-Ok c = record {
   line = c.in-Some.line;
-  spelled = c.in-Some.ensures.1;
+  spelling = c.in-Some.ensures.1;
   fits = λ before holds. fits_place c.args.self.now before c.in-Some.line holds c.in-Some.ensures.0 (c.if-not-fits.ensures.0 refl);
-  held = c.in-Ok.ensures;
+  holds = c.in-Ok.ensures;
 }
