@@ -8,6 +8,9 @@ use Rattle.plant_book.specs.declared.book.Entry.{Entry}
 use Rattle.plant_book.specs.Site.{SiteRecord, inverters}
 use Rattle.plant_book.specs.Book.{BookRecord}
 use Rattle.plant_book.specs.Calls.{moment, entered}
+use Rattle.plant_book.specs.Answered.{IsBook}
+use Rattle.plant_book.proofs.Safe.{no_past}
+use Rattle.plant_ledger.specs.Plant.{IsSafeLife}
 use Rattle.exporter.specs.declared.line.SiteLine as site_line
 use Rattle.exporter.specs.declared.script.Script.{Script}
 use Rattle.exporter.specs.Script.{last_moment, site_with}
@@ -23,6 +26,10 @@ enters_one old new call reply is later = record {
   calls = ap (λ (b : BookRecord). calls_in b.entries) is ∙ map_push (λ (entry : Entry). entry.call) old.entries (record { call = entered old.start old.entries call; reply = reply })
       ∙ ap (λ (c : Call). calls_in old.entries ++ c ∷ []) (entered_is old.start old.entries call later);
 }
+
+-- a book of right replies is safe at every moment, of a life that began with every inverter at its floor
+pub safe_book : (book : BookRecord) → IsBook book → IsSafeLife book → IsSafeBook book
+safe_book book kept safe = record { is_book = kept; safe = safe [] (no_past book kept) }
 
 -- the first calls were entered, and the others fit
 pub record Entering (first now : BookRecord) (calls : List Call) (k : ℕ) : Type 0 where

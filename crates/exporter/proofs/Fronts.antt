@@ -5,7 +5,6 @@ use Rattle.limiter_num.specs.declared.rating.Rating.{Rating}
 use Rattle.plant_book.specs.declared.site.Unit as unit
 use Rattle.plant_book.specs.declared.call.Call.{Call}
 use Rattle.plant_book.specs.declared.call.Call.TheVariants as calls
-use Rattle.plant_book.specs.Answered.{IsBuilt}
 use Rattle.limiter_num.specs.Milliwatts.{IsRated, full_of}
 use Rattle.plant_book.specs.declared.site.TheConstants.{CAP_MAX, ROOM_MAX}
 use Rattle.std.proofs.Props.{props}
@@ -15,7 +14,7 @@ use Rattle.exporter.specs.declared.line.Line.TheVariants as lines
 use Rattle.exporter.specs.declared.fields.Fields.{Fields}
 use Rattle.exporter.specs.declared.fields.Fields.TheVariants as fields
 use Rattle.exporter.specs.Text.{line_text}
-use Rattle.exporter.specs.Script.{IsLine}
+use Rattle.exporter.specs.Script.{IsScriptCall, IsLine}
 use Rattle.exporter.specs.Reading.{Judges, fields_at, fields_of}
 use Rattle.exporter.proofs.Decimals.{some, some_is}
 use Rattle.exporter.proofs.Spelled.{fields_text, fields_take}
@@ -124,7 +123,7 @@ kind (Some (fields.Inverter wmax wsf psf floor)) = 1
 kind (Some (fields.Begin at)) = 2
 kind _ = 3
 
-call_told : (call : Call) → IsBuilt call → (told_call (fields_of (lines.Call call)) ≡ call) × (kind (fields_of (lines.Call call)) ≡ 3)
+call_told : (call : Call) → IsScriptCall call → (told_call (fields_of (lines.Call call)) ≡ call) × (kind (fields_of (lines.Call call)) ≡ 3)
 call_told (calls.Link at inverter) is = (refl, refl)
 call_told (calls.Ask at inverter raw) is = (refl, refl)
 call_told (calls.Tick at) is = (refl, refl)
@@ -134,7 +133,7 @@ call_told (calls.Back at inverter link number) is = absurd is
 call_told (calls.Want at inverter mw) is = absurd is
 call_told (calls.Stop at) is = absurd is
 
-no_call : (call : Call) (found : Option Fields) → IsBuilt call → kind found < 3 → fields_of (lines.Call call) ≡ found → ⊥
+no_call : (call : Call) (found : Option Fields) → IsScriptCall call → kind found < 3 → fields_of (lines.Call call) ≡ found → ⊥
 no_call call found is other e = omega (arith, (call_told call is).1, ap kind e, other)
 
 same_site_line : (a b : site_line.SiteLine) → fields_of (lines.Site a) ≡ fields_of (lines.Site b) → a ≡ b

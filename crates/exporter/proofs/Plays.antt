@@ -8,14 +8,14 @@ use Rattle.plant_book.specs.declared.site.Unit as unit
 use Rattle.plant_book.specs.declared.call.Call.{Call}
 use Rattle.plant_book.specs.declared.call.Call.TheVariants as calls
 use Rattle.plant_book.specs.declared.book.Entry.{Entry}
-use Rattle.plant_book.specs.Answered.{IsOpenable}
+use Rattle.plant_book.specs.Answered.{IsOpenable, IsInRange}
 use Rattle.plant_book.specs.Calls.{moment, named, at_moment, latest, entered}
 use Rattle.exporter.specs.declared.line.SiteLine as site_line
 use Rattle.exporter.specs.declared.line.Line.{Line}
 use Rattle.exporter.specs.declared.line.Line.TheVariants as lines
 use Rattle.exporter.specs.declared.script.Script.{Script}
 use Rattle.exporter.specs.Ranges.{moment_most}
-use Rattle.exporter.specs.Script.{site_on, unit_on, start_on, call_on, sites_of, units_of, starts_of, calls_of, last_moment, site_with, EachMayFollow, MayFollow}
+use Rattle.exporter.specs.Script.{IsScriptCall, FitsCall, site_on, unit_on, start_on, call_on, sites_of, units_of, starts_of, calls_of, last_moment, site_with, EachMayFollow, MayFollow}
 use Rattle.exporter.specs.Holding.{ScriptOf}
 use Rattle.exporter.proofs.Places.{list_some}
 use Rattle.exporter.specs.Playing.{CallFits, EachFits, IsPlayable, calls_in}
@@ -72,6 +72,16 @@ record Whole (lines : List Line) (site : site_line.SiteLine) (start units : ℕ)
   starts : starts_of lines ≡ start ∷ []
   count : length (units_of lines) ≡ units
 
+in_range : (call : Call) → IsScriptCall call → FitsCall call → IsInRange call
+in_range (calls.Link at inverter) its fits = tt
+in_range (calls.Ask at inverter raw) its fits = omega (arith, fits.1)
+in_range (calls.Read at inverter) its fits = absurd its
+in_range (calls.Saw at inverter number raw) its fits = absurd its
+in_range (calls.Back at inverter link number) its fits = absurd its
+in_range (calls.Want at inverter mw) its fits = absurd its
+in_range (calls.Tick at) its fits = tt
+in_range (calls.Stop at) its fits = absurd its
+
 next_fits : (acc later : List Line) (call : Call) (site : site_line.SiteLine) (start units : ℕ) → MayFollow acc (lines.Call call) → Whole (acc ++ later) site start units → CallFits site.room units start (calls_of acc) call
 next_fits acc later call site start units may whole =
     let place = may.1 in
@@ -79,7 +89,7 @@ next_fits acc later call site start units may whole =
     let start-is : place.2 ≡ start = one_front (starts_of acc) place.2 start (starts_of later) place.3 (sym (flat_map-append start_on acc later) ∙ whole.starts) in
     let few : length (units_of acc) ≤ units = omega (arith, whole.count, ap length (flat_map-append unit_on acc later), length-append (units_of acc) (units_of later)) in
     record {
-      is_built = may.0.0;
+      in_range = in_range call may.0.0 may.0.1;
       moment_high = may.0.2;
       next = (
         below_more (named call) (length (units_of acc)) units few place.4,

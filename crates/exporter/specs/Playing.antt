@@ -5,8 +5,8 @@ use Rattle.plant_book.specs.declared.book.Entry.{Entry}
 use Rattle.plant_book.specs.Site.{inverters}
 use Rattle.plant_book.specs.Book.{BookRecord}
 use Rattle.plant_book.specs.Calls.{moment}
-use Rattle.plant_book.specs.Answered.{IsOpenable, IsBook, IsBuilt}
-use Rattle.plant_book.specs.History.{commissioned}
+use Rattle.plant_book.specs.Answered.{IsOpenable, IsBook, IsInRange}
+use Rattle.plant_book.specs.History.{life_after}
 use Rattle.plant_book.specs.Safe.{IsSafeAlways}
 use Rattle.exporter.specs.declared.line.SiteLine as site_line
 use Rattle.exporter.specs.declared.script.Script.{Script}
@@ -16,7 +16,7 @@ use Rattle.exporter.specs.Holding.{IsNextCall}
 
 -- a call that a ledger with this room, so many inverters and this start takes behind these calls
 pub record CallFits (room units start : ℕ) (before : List Call) (call : Call) : Type 0 where
-  pub is_built : IsBuilt call
+  pub in_range : IsInRange call
   pub moment_high : moment call ≤ moment_most
   pub next : IsNextCall room units start before call
 
@@ -53,7 +53,7 @@ pub record Enters (old new : BookRecord) (later : List Call) : Type 0 where
 -- a book of right replies, safe at every moment of its life
 pub record IsSafeBook (book : BookRecord) : Type 0 where
   pub is_book : IsBook book
-  pub safe : IsSafeAlways (commissioned book)
+  pub safe : IsSafeAlways (life_after [] book)
 
 -- the book of a script
 pub record Keeps (script : Script) (book : BookRecord) : Type 0 where

@@ -4,7 +4,7 @@ use Rattle.plant_book.specs.declared.call.Call.{Call}
 use Rattle.plant_book.specs.Site.{SiteRecord}
 use Rattle.plant_book.specs.Book.{BookRecord}
 use Rattle.plant_book.specs.Answered.{IsBook}
-use Rattle.plant_book.specs.History.{commissioned}
+use Rattle.plant_book.specs.History.{life_after}
 use Rattle.plant_book.specs.Safe.{IsSafeAlways}
 use Rattle.exporter.specs.declared.line.SiteLine as site_line
 use Rattle.exporter.specs.declared.line.Line.{Line}
@@ -26,6 +26,6 @@ pub record IsReplay (bytes text : List ℕ) : Type 0 where
   pub is_script : IsScript bytes lines
   pub book : BookRecord
   pub is_book : IsBook book
-  pub safe : IsSafeAlways (commissioned book)
+  pub safe : IsSafeAlways (life_after [] book)
   pub tells : Tells lines book.site book.start (map (λ entry. entry.call) book.entries)
   pub text_is : text ≡ book_text book

@@ -1,18 +1,25 @@
 -- Scripts as lists of lines, and the first line at which input leaves their form.
 use Rattle.std.specs.Prelude.{◌≡◌, ℕ, ◌+◌, ◌^◌, ◌<◌, ◌≤◌, List, [], ◌∷◌, ◌++◌, length, IfSome}
 use Rattle.std.specs.List.{flat_map}
-use Rattle.plant_book.specs.declared.site.Policy.TheVariants as policies
+use Rattle.share_policy.specs.declared.claim.Policy.TheVariants as policies
 use Rattle.plant_book.specs.declared.site.Unit as unit
 use Rattle.plant_book.specs.declared.call.Call.{Call}
 use Rattle.plant_book.specs.declared.call.Call.TheVariants as calls
 use Rattle.plant_book.specs.Site.{SiteRecord}
 use Rattle.plant_book.specs.Calls.{moment, named}
-use Rattle.plant_book.specs.Answered.{IsOpenable, IsBuilt}
+use Rattle.plant_book.specs.Answered.{IsOpenable}
 use Rattle.exporter.specs.declared.line.SiteLine as site
 use Rattle.exporter.specs.declared.line.Line.{Line}
 use Rattle.exporter.specs.declared.line.Line.TheVariants as lines
 use Rattle.exporter.specs.Ranges.{moment_most}
 use Rattle.exporter.specs.Text.{line_text}
+
+-- the calls that a script of this form may have
+abbrev pub IsScriptCall : Call → Type 0
+IsScriptCall (calls.Link at inverter) = Unit {0}
+IsScriptCall (calls.Ask at inverter raw) = Unit {0}
+IsScriptCall (calls.Tick at) = Unit {0}
+IsScriptCall _ = ⊥
 
 -- the numbers of a call fit their types
 abbrev pub FitsCall : Call → Type 0
@@ -20,13 +27,13 @@ FitsCall (calls.Link at inverter) = inverter < 2 ^ 8
 FitsCall (calls.Ask at inverter raw) = (inverter < 2 ^ 8) × (raw < 2 ^ 16)
 FitsCall _ = Unit {0}
 
--- A line whose values are in their ranges, of the calls that are built so far. The numbers of a site line,
+-- A line whose values are in their ranges, of the calls that a script may have. The numbers of a site line,
 -- and the rating and the floor of an inverter, are in theirs by their types.
 abbrev pub IsLine : Line → Type 0
 IsLine (lines.Site site) = Unit {0}
 IsLine (lines.Inverter unit) = unit.floor < 2 ^ 16
 IsLine (lines.Begin start) = start ≤ moment_most
-IsLine (lines.Call call) = IsBuilt call × FitsCall call × (moment call ≤ moment_most)
+IsLine (lines.Call call) = IsScriptCall call × FitsCall call × (moment call ≤ moment_most)
 
 abbrev pub site_on : Line → List site.SiteLine
 site_on (lines.Site site) = site ∷ []

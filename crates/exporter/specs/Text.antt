@@ -3,8 +3,8 @@ use Rattle.std.specs.Prelude.{ℕ, List, [], ◌∷◌, ◌++◌, codes}
 use Rattle.std.specs.List.{flat_map}
 use Rattle.std.specs.Fmt.{decimal, signed_decimal}
 use Rattle.limiter_num.specs.declared.rules.Rules.{Rules}
-use Rattle.plant_book.specs.declared.site.Policy.{Policy}
-use Rattle.plant_book.specs.declared.site.Policy.TheVariants as policies
+use Rattle.share_policy.specs.declared.claim.Policy.{Policy}
+use Rattle.share_policy.specs.declared.claim.Policy.TheVariants as policies
 use Rattle.plant_book.specs.declared.site.Unit as unit
 use Rattle.plant_book.specs.declared.call.Call.{Call}
 use Rattle.plant_book.specs.declared.call.Call.TheVariants as calls
