@@ -1,5 +1,5 @@
 -- When any list of calls answers a fault.
-use Rattle.std.proofs.Common.{◌≡◌, ℕ, zero, suc, ◌+◌, ◌<◌, ◌≤◌, ◌⊎◌, inl, inr, List, [], ◌∷◌, ◌++◌, length, refl, sym, ap, subst, ◌∙◌, ◌↔◌, append_assoc, arith}
+use Rattle.std.proofs.Common.{◌≡◌, ℕ, zero, suc, ◌<◌, ◌⊎◌, inl, inr, List, [], ◌∷◌, ◌++◌, length, refl, sym, ap, subst, ◌∙◌, ◌↔◌, append_assoc, arith}
 use Rattle.std.specs.Prelude.{Any, slice_index_or}
 use Rattle.std.specs.List.{AllByRecursion}
 use Rattle.std.proofs.lemmas.List.{append_cancel_left}
@@ -12,7 +12,7 @@ use Rattle.mbap_frames.specs.Stream.{IsUnfinished, HasFault, fault_end, IsRest, 
 use Rattle.mbap_frames.specs.Feed.{IsFed, Leaves, Feeding, AnswersFault, AreFeedings, stream_of, frames_among}
 use Rattle.mbap_frames.proofs.Headers.{unfinished_no_fault, one_fault}
 use Rattle.mbap_frames.proofs.Streams.{one_reading}
-use Rattle.mbap_frames.proofs.OneFeeding.{StandsFirst, first_of_call, exactly, stays_bad_at}
+use Rattle.mbap_frames.proofs.OneFeeding.{first_of_call, exactly, stays_bad_at}
 use Rattle.mbap_frames.proofs.Feedings.{calls_are_stream}
 
 -- after a fault each call answers it, uses nothing and keeps what was kept

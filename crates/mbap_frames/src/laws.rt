@@ -44,7 +44,7 @@ pub fn known_frames_are_first()
         → AllByRecursion IsFrame frames → IsStream behind later rest
         → IsStream (frames_spelling frames ++ behind) (frames ++ later) rest }
 
-    // So is a fault, and it stands under more bytes.
+    // A fault that stands behind them is that of the stream, and stays under more bytes.
     ensures fault { (frames : List Frame) (behind : List ℕ) (fault : FrameFault)
         → AllByRecursion IsFrame frames → HasFault behind fault
         → HasFaultBehind (frames_spelling frames ++ behind) frames fault }
