@@ -27,15 +27,17 @@ last_act rules at = at + rules.send + rules.delay
 abbrev pub last_moment : Rules → ℕ → ℕ
 last_moment rules at = at + reach rules
 
-abbrev out : RulesField → ℕ → Option RulesOut
-out field value = Some (record { field = field; value = value })
+-- a number outside its range
+abbrev pub range_fault : RulesField → ℕ → ℕ → ℕ → Option RulesOut
+range_fault field value low high = if nat_lt value low || nat_lt high value then Some (record { field = field; value = value }) else None
+
+-- this fault, or the later one where there is none
+abbrev pub before : Option RulesOut → Option RulesOut → Option RulesOut
+before None later = later
+before (Some fault) later = Some fault
 
 -- the first of these numbers that is out of its range
 abbrev pub rules_out : ℕ → ℕ → ℕ → ℕ → ℕ → Option RulesOut
 rules_out send delay timer per_mille slack =
-    if nat_lt send 1 || nat_lt 60000 send then out Send send
-    else if nat_lt 600000 delay then out Delay delay
-    else if nat_lt timer 1 || nat_lt 86400 timer then out Timer timer
-    else if nat_lt 500 per_mille then out PerMille per_mille
-    else if nat_lt 600000 slack then out Slack slack
-    else None
+    before (range_fault Send send 1 60000) (before (range_fault Delay delay 0 600000) (before (range_fault Timer timer 1 86400)
+    (before (range_fault PerMille per_mille 0 500) (range_fault Slack slack 0 600000))))

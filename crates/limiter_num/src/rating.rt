@@ -56,8 +56,11 @@ const RAW_MAX: u128 = 65_534;
 /// power of ten of the percentage (SunSpec DER models 702 and 704).
 #[derive(Clone, Copy, Debug, PartialEq, Eq)]
 pub struct Rating {
+    /// WMax of 702, in watts times ten to the power of `wsf`.
     pub wmax: u16,
+    /// W_SF of 702, a power of ten.
     pub wsf: i8,
+    /// WMaxLimPct_SF of 704, a power of ten.
     pub psf: i8,
     pub ghost sound: { IsRated wmax wsf psf },
 }
@@ -209,8 +212,8 @@ impl Rating {
         full(self.psf)
     }
 
-    #[tactic(auto, unfolding(crate::specs::Rating::raw_at_most, crate::specs::Milliwatts::mw_of))]
     /// The greatest raw percentage up to `full` that stands for at most so many milliwatts.
+    #[tactic(auto, unfolding(crate::specs::Rating::raw_at_most, crate::specs::Milliwatts::mw_of))]
     pub fn raw_at_most(&self, mw: u64) -> u16
         ensures { result ≡ raw_at_most self.now mw }
     {

@@ -1,22 +1,31 @@
-ghost use Rattle.std.specs.Prelude.{◌≡◌, ◌<◌, ◌≤◌, MatchResult, IfOk, None, Some};
+ghost use Rattle.std.specs.Prelude.{◌≡◌, ◌<◌, ◌≤◌, MatchResult, IfOk, OnOk, None, Some};
 
 /// The greatest moment, in ms.
 pub const MOMENT_MAX: u64 = 1_000_000_000_000_000;
 
+const _: () = prove!(MOMENT_MAX == 1_000_000_000_000_000);
+
 /// A number of `Rules`.
 #[derive(Clone, Copy, Debug, PartialEq, Eq)]
 pub enum RulesField {
+    /// The send window.
     Send,
+    /// The delay of a frame.
     Delay,
+    /// The reversion timer.
     Timer,
+    /// The tolerance of the timer.
     PerMille,
+    /// What the timer may be off besides.
     Slack,
 }
 
 /// The first number that is out of its range.
 #[derive(Clone, Copy, Debug, PartialEq, Eq)]
 pub struct RulesOut {
+    /// Which number it is.
     pub field: RulesField,
+    /// The number as it was given.
     pub value: u32,
 }
 
@@ -42,6 +51,23 @@ pub struct Rules {
     pub ghost slack_high: { slack ≤ 600000 },
 }
 
+impl RulesField {
+    ghost use Rattle.limiter_num.specs.Timers.{range_fault};
+
+    /// Refuses a value of this number that is outside a range.
+    fn within(self, value: u32, low: u32, high: u32) -> Result<(), RulesOut>
+        ensures fault { MatchResult result
+            (λ _. range_fault self value low high ≡ None)
+            (λ fault. range_fault self value low high ≡ Some fault) }
+        ensures range { OnOk result ((low ≤ value) × (value ≤ high)) }
+    {
+        if value < low || value > high {
+            return Err(RulesOut { field: self, value });
+        }
+        Ok(())
+    }
+}
+
 impl Rules {
     ghost use Rattle.limiter_num.specs.Timers.{tmin, tmax, reach, rules_out};
 
@@ -59,36 +85,11 @@ impl Rules {
         ensures numbers { IfOk result (λ rules. (rules.send ≡ send) × (rules.delay ≡ delay) × (rules.timer ≡ timer)
             × (rules.per_mille ≡ per_mille) × (rules.slack ≡ slack)) }
     {
-        if send < 1 || send > 60_000 {
-            return Err(RulesOut {
-                field: RulesField::Send,
-                value: send,
-            });
-        }
-        if delay > 600_000 {
-            return Err(RulesOut {
-                field: RulesField::Delay,
-                value: delay,
-            });
-        }
-        if timer < 1 || timer > 86_400 {
-            return Err(RulesOut {
-                field: RulesField::Timer,
-                value: timer,
-            });
-        }
-        if per_mille > 500 {
-            return Err(RulesOut {
-                field: RulesField::PerMille,
-                value: u32::from(per_mille),
-            });
-        }
-        if slack > 600_000 {
-            return Err(RulesOut {
-                field: RulesField::Slack,
-                value: slack,
-            });
-        }
+        RulesField::Send.within(send, 1, 60_000)?;
+        RulesField::Delay.within(delay, 0, 600_000)?;
+        RulesField::Timer.within(timer, 1, 86_400)?;
+        RulesField::PerMille.within(u32::from(per_mille), 0, 500)?;
+        RulesField::Slack.within(slack, 0, 600_000)?;
         Ok(Rules {
             send,
             delay,
@@ -98,8 +99,8 @@ impl Rules {
         })
     }
 
-    #[tactic(auto, unfolding(crate::specs::Timers::tmin))]
     /// The earliest moment after an act at which the timer runs out, in ms.
+    #[tactic(auto, unfolding(crate::specs::Timers::tmin))]
     pub fn tmin(&self) -> u64
         ensures { result ≡ tmin self.now }
     {
@@ -108,8 +109,8 @@ impl Rules {
         )
     }
 
-    #[tactic(auto, unfolding(crate::specs::Timers::tmax))]
     /// The latest moment after an act at which the timer runs out, in ms.
+    #[tactic(auto, unfolding(crate::specs::Timers::tmax))]
     pub fn tmax(&self) -> u64
         ensures moment { result ≡ tmax self.now }
         ensures below { result ≤ 130200000 }
@@ -118,8 +119,8 @@ impl Rules {
             + u64::from(self.slack)
     }
 
-    #[tactic(auto, unfolding(crate::specs::Timers::reach))]
     /// How long after its grant a write may still be held, in ms: the send window, the delay and the timer.
+    #[tactic(auto, unfolding(crate::specs::Timers::reach))]
     pub fn reach(&self) -> u64
         ensures moment { result ≡ reach self.now }
         ensures below { result ≤ 130860000 }
