@@ -22,13 +22,15 @@ missing_fault wmax wsf psf =
 
 -- a factor that is no power of ten from -10 to 10
 abbrev pub scale_fault : Point → ℤ → Option RatingFault
-scale_fault point factor = if int_lt factor (negsuc 9) || int_lt (pos 10) factor then Some (ScaleOut point factor) else None
+scale_fault point factor = if int_lt factor (negsuc 9) || int_lt (pos 10) factor then Some
+    (ScaleOut point factor) else None
 
 -- a rating of nothing, or of more than 10^12 mW
 abbrev pub size_fault : ℕ → ℤ → ℤ → Option RatingFault
 size_fault wmax wsf psf =
     if wmax == 0 || full_of psf == 0 then Some NoResolution
-    else if nat_lt (10 ^ 12) (mw_of wmax wsf psf (full_of psf)) then Some (TooLarge (mw_of wmax wsf psf (full_of psf)))
+    else if nat_lt (10 ^ 12) (mw_of wmax wsf psf (full_of psf)) then Some (TooLarge (mw_of wmax wsf psf
+    (full_of psf)))
     else None
 
 -- this fault, or the later one where there is none
@@ -38,4 +40,5 @@ before (Some fault) later = Some fault
 
 -- why these points make no rating
 abbrev pub rating_fault : ℕ → ℤ → ℤ → Option RatingFault
-rating_fault wmax wsf psf = before (missing_fault wmax wsf psf) (before (scale_fault WSf wsf) (before (scale_fault PctSf psf) (size_fault wmax wsf psf)))
+rating_fault wmax wsf psf = before (missing_fault wmax wsf psf) (before (scale_fault WSf wsf) (before
+    (scale_fault PctSf psf) (size_fault wmax wsf psf)))

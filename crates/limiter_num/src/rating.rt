@@ -136,7 +136,8 @@ fn raw_at_most(wmax: u16, power: i32, full: u16, mw: u64) -> u16
 
 /// Whether the device has the three points.
 fn implemented(wmax: u16, wsf: i16, psf: i16) -> Result<(), RatingFault>
-    ensures { MatchResult result (λ _. missing_fault wmax wsf psf ≡ None) (λ fault. missing_fault wmax wsf psf ≡ Some fault) }
+    ensures { MatchResult result (λ _. missing_fault wmax wsf psf ≡ None)
+        (λ fault. missing_fault wmax wsf psf ≡ Some fault) }
 {
     let missing = |point| Err(RatingFault::NotImplemented(point));
     if wmax == MISSING_UINT16 {
@@ -153,7 +154,8 @@ fn implemented(wmax: u16, wsf: i16, psf: i16) -> Result<(), RatingFault>
 
 /// A scale factor as a power of ten from -10 to 10.
 fn scale(point: Point, factor: i16) -> Result<i8, RatingFault>
-    ensures fault { MatchResult result (λ _. scale_fault point factor ≡ None) (λ fault. scale_fault point factor ≡ Some fault) }
+    ensures fault { MatchResult result (λ _. scale_fault point factor ≡ None)
+        (λ fault. scale_fault point factor ≡ Some fault) }
     ensures value { IfOk result (λ power. (power ≡ factor) × (negsuc 9 ≤ℤ factor) × (factor ≤ℤ pos 10)) }
 {
     if factor < -10 || factor > 10 {
@@ -182,7 +184,8 @@ impl Rating {
         ensures fault { MatchResult result
             (λ _. rating_fault wmax wsf psf ≡ None)
             (λ fault. rating_fault wmax wsf psf ≡ Some fault) }
-        ensures points { IfOk result (λ rating. (rating.wmax ≡ wmax) × (rating.wsf ≡ wsf) × (rating.psf ≡ psf)) }
+        ensures points { IfOk result (λ rating. (rating.wmax ≡ wmax) × (rating.wsf ≡ wsf)
+            × (rating.psf ≡ psf)) }
     {
         implemented(wmax, wsf, psf)?;
         let wsf = scale(Point::WSf, wsf)?;

@@ -82,7 +82,8 @@ impl Rules {
         ensures fault { MatchResult result
             (λ _. rules_out send delay timer per_mille slack ≡ None)
             (λ fault. rules_out send delay timer per_mille slack ≡ Some fault) }
-        ensures numbers { IfOk result (λ rules. (rules.send ≡ send) × (rules.delay ≡ delay) × (rules.timer ≡ timer)
+        ensures numbers { IfOk result (λ rules. (rules.send ≡ send) × (rules.delay ≡ delay)
+            × (rules.timer ≡ timer)
             × (rules.per_mille ≡ per_mille) × (rules.slack ≡ slack)) }
     {
         RulesField::Send.within(send, 1, 60_000)?;

@@ -22,7 +22,8 @@ silent_until book = book.start + reach book.site.rules
 
 -- how much more than now would be reserved for the inverter with this limit
 abbrev pub raise_at : BookRecord → ℕ → ℕ → ℕ → ℕ
-raise_at book now inverter raw = max (reserved_at book now inverter) (mw_at book.site inverter raw) - reserved_at book now inverter
+raise_at book now inverter raw = max (reserved_at book now inverter)
+    (mw_at book.site inverter raw) - reserved_at book now inverter
 
 -- the write that is granted at this moment
 abbrev pub write_at : BookRecord → ℕ → ℕ → ℕ → writes.Write
@@ -37,7 +38,8 @@ write_at book now inverter raw = record {
 -- the reply to an Ask that the policy allows: the unreserved watts, the count of live writes, or the grant
 unfoldable pub reply_by_watts : BookRecord → ℕ → ℕ → ℕ → Reply
 reply_by_watts book now inverter raw =
-    if nat_lt (unreserved_at book now) (raise_at book now inverter raw) then replies.NoWatts (unreserved_at book now)
+    if nat_lt (unreserved_at book now) (raise_at book now inverter raw) then replies.NoWatts
+    (unreserved_at book now)
     else if nat_le LIVE_MAX (length (live book.site.rules book.entries now inverter)) then replies.Crowded
     else replies.Granted (write_at book now inverter raw)
 
@@ -46,7 +48,8 @@ unfoldable pub reply_by_policy : BookRecord → ℕ → ℕ → ℕ → Reply
 reply_by_policy book now inverter raw =
     if nat_lt (full_at book.site inverter) raw then replies.Over (full_at book.site inverter)
     else if nat_le now (silent_until book) then replies.Silent (silent_until book)
-    else if nat_lt (target book inverter) (mw_at book.site inverter raw) then replies.NotAllowed (raw_at book.site inverter (target book inverter))
+    else if nat_lt (target book inverter) (mw_at book.site inverter raw) then replies.NotAllowed
+    (raw_at book.site inverter (target book inverter))
     else reply_by_watts book now inverter raw
 
 -- the reply to an Ask: the first refusal that applies, or the grant
@@ -67,8 +70,10 @@ reply_to_read book now inverter =
 abbrev pub is_raw_of : ℕ → ℕ → List writes.Write → Bool
 is_raw_of floor raw its_writes = (raw == floor) || list_any (λ write. write.raw == raw) its_writes
 
--- the reply to a Saw of this pending read, where these are the live writes: a raw percentage that is neither the floor
--- nor that of a live write is strange; else the writes that the look settles, and whose raw percentage differs, are free
+-- the reply to a Saw of this pending read, where these are the live writes: a raw percentage that is neither
+-- the floor
+-- nor that of a live write is strange; else the writes that the look settles, and whose raw percentage
+-- differs, are free
 abbrev pub reply_to_sight : SiteRecord → ℕ → Option reads.Read → ℕ → List writes.Write → Reply
 reply_to_sight site inverter pending raw its_writes =
     if not (is_raw_of (floor_raw_at site inverter) raw its_writes) then replies.Strange raw
@@ -83,12 +88,14 @@ is_pending (Some read) number = read.number == number
 unfoldable pub reply_to_saw : BookRecord → ℕ → ℕ → ℕ → ℕ → Reply
 reply_to_saw book now inverter number raw =
     if not (is_pending (pending_read inverter book.entries) number) then replies.NoRead
-    else reply_to_sight book.site inverter (pending_read inverter book.entries) raw (live book.site.rules book.entries now inverter)
+    else reply_to_sight book.site inverter (pending_read inverter book.entries) raw
+    (live book.site.rules book.entries now inverter)
 
 -- the reply to a Back: whether a live write has these numbers
 unfoldable pub reply_to_back : BookRecord → ℕ → ℕ → ℕ → ℕ → Reply
 reply_to_back book now inverter link number =
-    if list_any (is_numbered inverter link number) (live book.site.rules book.entries now inverter) then replies.Taken else replies.NoWrite
+    if list_any (is_numbered inverter link number) (live book.site.rules book.entries now inverter)
+    then replies.Taken else replies.NoWrite
 
 -- the reply to a call as it is entered
 abbrev pub reply_to : BookRecord → Call → Reply
@@ -103,7 +110,8 @@ reply_to book (calls.Stop at) = replies.Taken
 
 -- the limit that an inverter may aim at: the greatest that the policy and the watts allow at the last moment
 unfoldable pub goal_raw : BookRecord → ℕ → ℕ
-goal_raw book inverter = raw_at book.site inverter (min (target book inverter) (reserved book inverter + unreserved book))
+goal_raw book inverter = raw_at book.site inverter (min (target book inverter)
+    (reserved book inverter + unreserved book))
 
 abbrev pub stops : Call → Bool
 stops (calls.Stop at) = true

@@ -1,4 +1,5 @@
--- What an inverter may have done over a history: the timed device. A whole write acts at once and starts its timer
+-- What an inverter may have done over a history: the timed device. A whole write acts at once and starts its
+-- timer
 -- anew; when the timer runs out the inverter goes back to its floor.
 use Rattle.std.specs.Prelude.{◌≡◌, ℕ, ◌+◌, ◌≤◌, ◌==◌, ◌&&◌, Bool, true, false, List, [], ◌∷◌, ◌++◌, find, Option, Some, None, IsSomeAnd, count_by, Contains}
 use Rattle.limiter_num.specs.declared.rules.Rules.{Rules}
@@ -36,7 +37,8 @@ abbrev pub held_by : ℕ → Option Timed → ℕ
 held_by floor None = floor
 held_by floor (Some timed) = held_after floor timed.event
 
--- the raw percentage that is held after these events: that of the last Act, if no Revert follows it, else the floor
+-- the raw percentage that is held after these events: that of the last Act, if no Revert follows it, else the
+-- floor
 unfoldable pub held : SiteRecord → ℕ → List Timed → ℕ
 held site inverter events = held_by (floor_raw_at site inverter) (last_that is_change events)
 
@@ -67,29 +69,39 @@ IsAct (Look sight) = ⊥
 pub record IsBehaviour (history : History) (inverter : ℕ) (events : List Timed) : Type 0 where
   -- the moments never fall
   pub in_order : (first second : Timed) → Precedes events first second → first.at ≤ second.at
-  -- an Act is one of a write of the inverter that may act, not before its grant, and in its send window and delay
-  pub acts : (before after : List Timed) (at : ℕ) (grant : Grant) → events ≡ before ++ record { at = at; event = Act grant } ∷ after
+  -- an Act is one of a write of the inverter that may act, not before its grant, and in its send window and
+  -- delay
+  pub acts : (before after : List Timed) (at : ℕ) (grant : Grant)
+      → events ≡ before ++ record { at = at; event = Act grant } ∷ after
       → Contains (grants history) grant × (grant.write.inverter ≡ inverter)
       × (grant.write.at ≤ at) × (at ≤ last_act history.life.site.rules grant.write.at)
   -- on one link requests act, and are looked at, in rising order of their numbers
   pub numbers : (first second : Timed) → Precedes events first second → (link : ℕ × ℕ) (one other : ℕ)
       → IsAsked first.event link one → IsAsked second.event link other → one ≤ other
   -- each answered read was looked at once
-  pub looked : (sight : Sight) → Contains (sights history) sight → sight.read.inverter ≡ inverter → count_by (λ timed. is_look_of sight timed.event) events ≡ 1
-  -- and nothing else was: between the read and its Saw, and before every Act of a write that was granted after that Saw
-  pub looks : (before after : List Timed) (at : ℕ) (sight : Sight) → events ≡ before ++ record { at = at; event = Look sight } ∷ after
-      → Contains (sights history) sight × (sight.read.inverter ≡ inverter) × (sight.read.at ≤ at) × (at ≤ sight.at)
+  pub looked : (sight : Sight) → Contains (sights history) sight → sight.read.inverter ≡ inverter
+      → count_by (λ timed. is_look_of sight timed.event) events ≡ 1
+  -- and nothing else was: between the read and its Saw, and before every Act of a write that was granted
+  -- after that Saw
+  pub looks : (before after : List Timed) (at : ℕ) (sight : Sight)
+      → events ≡ before ++ record { at = at; event = Look sight } ∷ after
+      → Contains (sights history) sight × (sight.read.inverter ≡ inverter) × (sight.read.at ≤ at)
+      × (at ≤ sight.at)
   pub looks_first : (sight : Sight) (grant : Grant) (first second : Timed) → Precedes events first second
       → first.event ≡ Act grant → second.event ≡ Look sight → is_granted_after sight grant ≡ false
   -- after an Act another Act or a Revert follows, at most the longest timer later
-  pub ends : (before after : List Timed) (at : ℕ) (grant : Grant) → events ≡ before ++ record { at = at; event = Act grant } ∷ after
+  pub ends : (before after : List Timed) (at : ℕ) (grant : Grant)
+      → events ≡ before ++ record { at = at; event = Act grant } ∷ after
       → IsSomeAnd (find is_change after) (λ next. next.at ≤ at + tmax history.life.site.rules)
-  -- a Revert comes from the shortest to the longest timer after the last Act before it, with no other Revert between
-  pub reverts : (before after : List Timed) (at : ℕ) → events ≡ before ++ record { at = at; event = Revert } ∷ after
+  -- a Revert comes from the shortest to the longest timer after the last Act before it, with no other Revert
+  -- between
+  pub reverts : (before after : List Timed) (at : ℕ)
+      → events ≡ before ++ record { at = at; event = Revert } ∷ after
       → IsSomeAnd (last_that is_change before) (λ last. IsAct last.event
       × (last.at + tmin history.life.site.rules ≤ at) × (at ≤ last.at + tmax history.life.site.rules))
   -- what a Look showed was held
-  pub shown : (before after : List Timed) (at : ℕ) (sight : Sight) → events ≡ before ++ record { at = at; event = Look sight } ∷ after
+  pub shown : (before after : List Timed) (at : ℕ) (sight : Sight)
+      → events ≡ before ++ record { at = at; event = Look sight } ∷ after
       → held history.life.site inverter before ≡ sight.raw
 
 -- a write that acts at the last moment at which it may, and the longest timer after it the Revert
@@ -101,15 +113,20 @@ acts_last rules grant =
 -- a write that acts, a look while it is held, and the longest timer after the Act the Revert
 abbrev pub acts_and_shows : Rules → Grant → Sight → ℕ → ℕ → List Timed
 acts_and_shows rules grant sight acted looked =
-    record { at = acted; event = Act grant } ∷ record { at = looked; event = Look sight } ∷ record { at = acted + tmax rules; event = Revert } ∷ []
+    record { at = acted; event = Act grant } ∷ record { at = looked; event = Look sight }
+    ∷ record { at = acted + tmax rules; event = Revert } ∷ []
 
 -- no read of the inverter was answered
 abbrev pub IsUnseen : History → ℕ → Type 0
-IsUnseen history inverter = (sight : Sight) → Contains (sights history) sight → sight.read.inverter ≡ inverter → ⊥
+IsUnseen history inverter = (sight : Sight) → Contains (sights history) sight
+    → sight.read.inverter ≡ inverter → ⊥
 
--- The only answered read of an inverter may have shown a write that acted at this moment and was looked at at this one:
--- the write was not granted behind the Saw, on its link it is no later request, and its raw percentage was shown.
-pub record MayShow (history : History) (inverter : ℕ) (grant : Grant) (sight : Sight) (acted looked : ℕ) : Type 0 where
+-- The only answered read of an inverter may have shown a write that acted at this moment and was looked at at
+-- this one:
+-- the write was not granted behind the Saw, on its link it is no later request, and its raw percentage was
+-- shown.
+pub record MayShow (history : History) (inverter : ℕ) (grant : Grant) (sight : Sight)
+    (acted looked : ℕ) : Type 0 where
   pub granted : Contains (grants history) grant
   pub its_write : grant.write.inverter ≡ inverter
   pub acts_from : grant.write.at ≤ acted
@@ -123,4 +140,5 @@ pub record MayShow (history : History) (inverter : ℕ) (grant : Grant) (sight :
   pub shown : grant.write.raw ≡ sight.raw
   pub not_after : is_granted_after sight grant ≡ false
   pub in_order : link_of_grant grant ≡ link_of_sight sight → grant.write.number ≤ sight.read.number
-  pub only : (other : Sight) → Contains (sights history) other → other.read.inverter ≡ inverter → other ≡ sight
+  pub only : (other : Sight) → Contains (sights history) other → other.read.inverter ≡ inverter
+      → other ≡ sight

@@ -1,4 +1,5 @@
--- What was granted and seen over the lives of a plant. A restart ends a life: its book is closed, and an empty one
+-- What was granted and seen over the lives of a plant. A restart ends a life: its book is closed, and an
+-- empty one
 -- begins, while what was sent in it may still act.
 use Rattle.std.specs.Prelude.{◌≡◌, ℕ, ◌+◌, ◌≤◌, Bool, false, not, ◌&&◌, ◌||◌, ◌==◌, nat_lt, if◌then◌else◌, List, [], ◌∷◌, ◌++◌, map, filter, Option, Some, None}
 use Rattle.std.specs.List.{AllByRecursion, list_any}
@@ -16,7 +17,8 @@ use Rattle.plant_book.specs.Writes.{grant_of, is_taken, is_numbered}
 use Rattle.plant_book.specs.Reserved.{covering, now_of}
 use Rattle.plant_book.specs.Answered.{IsBook}
 
--- A plant's past writes, from before its first life, then its ended lives, the oldest first, and its last life.
+-- A plant's past writes, from before its first life, then its ended lives, the oldest first, and its last
+-- life.
 pub record History : Type 0 where
   pub past : List writes.Write
   pub earlier : List BookRecord
@@ -25,13 +27,15 @@ pub record History : Type 0 where
 abbrev pub lives : History → List BookRecord
 lives history = history.earlier ++ history.life ∷ []
 
--- a write that may act: a past one, whose life is 0, or a grant, by its life from 1 on and its place in that life's book
+-- a write that may act: a past one, whose life is 0, or a grant, by its life from 1 on and its place in that
+-- life's book
 pub record Grant : Type 0 where
   pub life : ℕ
   pub place : ℕ
   pub write : writes.Write
 
--- a read that was answered: by the life and the place of the Saw, with the raw percentage and the moment of the Saw
+-- a read that was answered: by the life and the place of the Saw, with the raw percentage and the moment of
+-- the Saw
 pub record Sight : Type 0 where
   pub life : ℕ
   pub place : ℕ
@@ -42,10 +46,12 @@ pub record Sight : Type 0 where
 -- the past writes, each by its place among them
 abbrev pub past_grants : ℕ → List writes.Write → List Grant
 past_grants place [] = []
-past_grants place (write ∷ past) = record { life = 0; place = place; write = write } ∷ past_grants (place + 1) past
+past_grants place (write ∷ past) = record { life = 0; place = place; write = write } ∷ past_grants
+    (place + 1) past
 
 abbrev pub gives_back : Call → Reply → writes.Write → Bool
-gives_back (calls.Back at inverter link number) reply write = is_taken reply && is_numbered inverter link number write
+gives_back (calls.Back at inverter link number) reply write = is_taken reply
+    && is_numbered inverter link number write
 gives_back _ reply write = false
 
 -- whether one of these entries gives the write back
@@ -56,7 +62,8 @@ is_given_back later write = list_any (λ entry. gives_back entry.call entry.repl
 abbrev pub life_grants : ℕ → ℕ → List Entry → List Grant
 life_grants life place [] = []
 life_grants life place (entry ∷ later) =
-    map (λ write. record { life = life; place = place; write = write }) (filter (λ write. not (is_given_back later write)) (grant_of entry))
+    map (λ write. record { life = life; place = place; write = write }) (filter (λ write. not
+    (is_given_back later write)) (grant_of entry))
     ++ life_grants life (place + 1) later
 
 abbrev pub lives_grants : ℕ → List BookRecord → List Grant
@@ -72,13 +79,15 @@ sight_of life place None raw at = []
 sight_of life place (Some read) raw at = record { life = life; place = place; read = read; raw = raw; at = at } ∷ []
 
 abbrev pub sight_by : ℕ → ℕ → List Entry → Call → Reply → List Sight
-sight_by life place before (calls.Saw at inverter number raw) reply = if is_seen reply then sight_of life place (pending_read inverter before) raw at else []
+sight_by life place before (calls.Saw at inverter number raw) reply = if is_seen reply
+    then sight_of life place (pending_read inverter before) raw at else []
 sight_by life place before _ reply = []
 
 -- the answered reads of a life's later entries, behind those before them
 abbrev pub life_sights : ℕ → ℕ → List Entry → List Entry → List Sight
 life_sights life place before [] = []
-life_sights life place before (entry ∷ later) = sight_by life place before entry.call entry.reply ++ life_sights life (place + 1) (before ++ entry ∷ []) later
+life_sights life place before (entry ∷ later) = sight_by life place before entry.call entry.reply
+    ++ life_sights life (place + 1) (before ++ entry ∷ []) later
 
 abbrev pub lives_sights : ℕ → List BookRecord → List Sight
 lives_sights life [] = []
@@ -90,7 +99,8 @@ sights history = lives_sights 1 (lives history)
 
 -- whether a write was granted after the Saw of an answered read
 abbrev pub is_granted_after : Sight → Grant → Bool
-is_granted_after sight grant = nat_lt sight.life grant.life || (sight.life == grant.life) && nat_lt sight.place grant.place
+is_granted_after sight grant = nat_lt sight.life grant.life || (sight.life == grant.life)
+    && nat_lt sight.place grant.place
 
 -- The link of a write, by its life and its number there. Each past write is on a link of its own.
 abbrev pub link_of_grant : Grant → ℕ × ℕ
@@ -112,14 +122,16 @@ first_start (book ∷ books) otherwise = book.start
 
 -- the past fits: its writes and the floors, the greatest of each inverter, sum to at most the cap
 abbrev pub Fits : SiteRecord → List writes.Write → Type 0
-Fits site past = sum_below (inverters site) (λ inverter. covering site inverter (filter (λ write. write.inverter == inverter) past)) ≤ site.cap
+Fits site past = sum_below (inverters site) (λ inverter. covering site inverter (filter
+    (λ write. write.inverter == inverter) past)) ≤ site.cap
 
 -- what is true of every history
 pub record IsHistory (history : History) : Type 0 where
   pub books : AllByRecursion IsBook (lives history)
   pub one_site : AllByRecursion (λ book. book.site ≡ history.life.site) (lives history)
   pub in_turn : InTurn (lives history)
-  pub before : AllByRecursion (λ write. write.at ≤ first_start (lives history) history.life.start) history.past
+  pub before : AllByRecursion (λ write. write.at ≤ first_start
+      (lives history) history.life.start) history.past
   pub fits : Fits history.life.site history.past
 
 -- a past that a life of this site, begun at this moment, may follow: no write of it is later, and it fits

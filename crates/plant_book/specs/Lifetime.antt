@@ -21,22 +21,28 @@ is_refusal replies.Taken = false
 is_refusal (replies.Total watts) = false
 is_refusal _ = true
 
--- of these writes those that an entry, behind these before it, neither gives back nor frees, and that are not past
+-- of these writes those that an entry, behind these before it, neither gives back nor frees, and that are not
+-- past
 -- their last moment at its own
 abbrev pub left_after : Rules → List Entry → Entry → List writes.Write → List writes.Write
 left_after rules before entry its_writes =
-    filter (λ write. nat_le (moment entry.call) (last_moment rules write.at)) (filter (λ write. not (ends rules before entry write)) its_writes)
+    filter (λ write. nat_le (moment entry.call) (last_moment rules write.at)) (filter (λ write. not
+    (ends rules before entry write)) its_writes)
 
 -- the writes that an entry grants to the inverter
 abbrev pub granted_to : ℕ → Entry → List writes.Write
 granted_to inverter entry = filter (λ write. write.inverter == inverter) (grant_of entry)
 
--- A write stays reserved until it is given back, freed or past, and at that very call it is gone: what is reserved for
--- each inverter after an entry covers the writes that were live before and are left, and the one that is granted.
+-- A write stays reserved until it is given back, freed or past, and at that very call it is gone: what is
+-- reserved for
+-- each inverter after an entry covers the writes that were live before and are left, and the one that is
+-- granted.
 abbrev pub LiveOn : BookRecord → Entry → BookRecord → Type 0
 LiveOn old entry new = (inverter : ℕ) → reserved new inverter
-    ≡ covering old.site inverter (left_after old.site.rules old.entries entry (live old.site.rules old.entries (now_of old) inverter) ++ granted_to inverter entry)
+    ≡ covering old.site inverter (left_after old.site.rules old.entries entry
+    (live old.site.rules old.entries (now_of old) inverter) ++ granted_to inverter entry)
 
 -- a refused call changes no reservation beyond what is past by its moment
 abbrev pub ChangesNothing : BookRecord → Entry → BookRecord → Type 0
-ChangesNothing old entry new = is_refusal entry.reply ≡ true → (inverter : ℕ) → reserved new inverter ≡ reserved_at old (moment entry.call) inverter
+ChangesNothing old entry new = is_refusal entry.reply ≡ true → (inverter : ℕ)
+    → reserved new inverter ≡ reserved_at old (moment entry.call) inverter

@@ -47,11 +47,13 @@ wish_after otherwise inverter (Some entry) = unwrap_or (wish_by inverter entry.c
 
 -- the wish of an inverter: that of its last Want, or its rating
 unfoldable pub wish : BookRecord → ℕ → ℕ
-wish book inverter = wish_after (rated_at book.site inverter) inverter (last_that (is_want inverter) book.entries)
+wish book inverter = wish_after (rated_at book.site inverter) inverter (last_that
+    (is_want inverter) book.entries)
 
 -- the rating that the policy goes by: the floor for a strange inverter
 unfoldable pub trusted : BookRecord → ℕ → ℕ
-trusted book inverter = if is_strange inverter book.entries then floor_at book.site inverter else rated_at book.site inverter
+trusted book inverter = if is_strange inverter book.entries then floor_at book.site inverter
+    else rated_at book.site inverter
 
 -- what an inverter's share goes by
 abbrev pub claim_of : BookRecord → ℕ → Claim
@@ -63,4 +65,5 @@ claims book = map (claim_of book) (range_with_len 0 (inverters book.site))
 
 -- the greatest limit in milliwatts that the policy allows the inverter
 unfoldable pub target : BookRecord → ℕ → ℕ
-target book inverter = target_of book.site.policy (level_of book.site.cap (claims book)) (claim_of book inverter)
+target book inverter = target_of book.site.policy (level_of book.site.cap (claims book))
+    (claim_of book inverter)

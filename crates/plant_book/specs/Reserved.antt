@@ -9,7 +9,8 @@ use Rattle.plant_book.specs.Writes.{live}
 
 -- the greatest of the floor and the limits of these writes
 unfoldable pub covering : SiteRecord → ℕ → List writes.Write → ℕ
-covering site inverter its_writes = fold max (floor_at site inverter) (map (λ write. mw_at site inverter write.raw) its_writes)
+covering site inverter its_writes = fold max (floor_at site inverter) (map
+    (λ write. mw_at site inverter write.raw) its_writes)
 
 -- what is reserved for the inverter at a moment
 unfoldable pub reserved_at : BookRecord → ℕ → ℕ → ℕ

@@ -13,12 +13,16 @@ use std::marker::Model;
 /// A call as it was entered, with its reply.
 #[derive(Clone, Copy, Debug, PartialEq, Eq)]
 pub struct Entry {
+    /// The call, with the moment at which it was entered.
     pub call: Call,
+    /// What the ledger answered.
     pub reply: Reply,
 }
 
 /// How many bytes an entry takes at most.
 pub const ENTRY_BYTES_MAX: usize = 80;
+
+const _: () = prove!(ENTRY_BYTES_MAX == 80);
 
 const _: () = prove!(size_of::<Entry>() <= ENTRY_BYTES_MAX);
 
@@ -26,8 +30,11 @@ const _: () = prove!(size_of::<Entry>() <= ENTRY_BYTES_MAX);
 /// memory for its whole room from the start on, so that one more entry takes none.
 #[derive(Debug, Drop)]
 pub struct Book {
+    /// The site of the book.
     pub site: Site,
+    /// The moment at which the book begins, in ms.
     pub start: u64,
+    /// The entries in order.
     pub entries: Vec<Entry>,
 }
 

@@ -23,6 +23,7 @@ const _: () = prove!(LIVE_MAX == 32);
 /// A limit that was granted: the right to send one write of the six registers of WMaxLimPct.
 #[derive(Clone, Copy, Debug, Default, PartialEq, Eq)]
 pub struct Write {
+    /// The number of the inverter, from 0.
     pub inverter: u8,
     /// The number of the link on which it may be sent, from 1.
     pub link: u32,
@@ -37,6 +38,7 @@ pub struct Write {
 /// A read-back that was numbered.
 #[derive(Clone, Copy, Debug, PartialEq, Eq)]
 pub struct Read {
+    /// The number of the inverter, from 0.
     pub inverter: u8,
     /// The number of the link on which it may be sent, from 1.
     pub link: u32,

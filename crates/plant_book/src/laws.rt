@@ -10,16 +10,20 @@ ghost use Rattle.plant_book.specs.Behaviour.{IsBehaviour, IsUnseen, MayShow, act
 ghost use Rattle.plant_book.specs.Safe.{IsSafeAlways};
 ghost use Rattle.plant_book.specs.Tight.{IsTight};
 
-/// Every history is safe at every moment: whatever past it has that fits, and however often the plant was restarted.
+/// Every history is safe at every moment: whatever past it has that fits, and however often the plant was
+/// restarted.
 pub fn histories_are_safe()
     ensures { (history : History) → IsHistory history → IsSafeAlways history }
 {}
 
-/// The timed device is no empty premise. An inverter of which no read was answered may have done nothing, and each
-/// write that may act may have acted at the last moment at which it may. A write may have acted and then been shown by
+/// The timed device is no empty premise. An inverter of which no read was answered may have done nothing, and
+/// each
+/// write that may act may have acted at the last moment at which it may. A write may have acted and then been
+/// shown by
 /// the only answered read.
 pub fn behaviours_exist()
-    ensures idle { (history : History) (inverter : ℕ) → IsUnseen history inverter → IsBehaviour history inverter [] }
+    ensures idle { (history : History) (inverter : ℕ) → IsUnseen history inverter
+        → IsBehaviour history inverter [] }
     ensures last { (history : History) (inverter : ℕ) (grant : Grant) → IsUnseen history inverter
         → Contains (grants history) grant → grant.write.inverter ≡ inverter
         → IsBehaviour history inverter (acts_last history.life.site.rules grant) }
@@ -28,23 +32,31 @@ pub fn behaviours_exist()
         → IsBehaviour history inverter (acts_and_shows history.life.site.rules grant sight acted looked) }
 {}
 
-/// A reservation stays until its write is given back, freed or past, and is gone at that very call. A refused call
+/// A reservation stays until its write is given back, freed or past, and is gone at that very call. A refused
+/// call
 /// changes no reservation beyond what is past by its moment.
 pub fn reservations_live_on()
-    ensures lifetime { (book : BookRecord) (entry : Entry) → IsNext book.site book.start book.entries entry.call
-        → IsAnswer book book.entries entry → LiveOn book entry (with_entries book (book.entries ++ entry ∷ [])) }
-    ensures refused { (book : BookRecord) (entry : Entry) → IsNext book.site book.start book.entries entry.call
-        → IsAnswer book book.entries entry → ChangesNothing book entry (with_entries book (book.entries ++ entry ∷ [])) }
+    ensures lifetime { (book : BookRecord) (entry : Entry)
+        → IsNext book.site book.start book.entries entry.call
+        → IsAnswer book book.entries entry
+        → LiveOn book entry (with_entries book (book.entries ++ entry ∷ [])) }
+    ensures refused { (book : BookRecord) (entry : Entry)
+        → IsNext book.site book.start book.entries entry.call
+        → IsAnswer book book.entries entry
+        → ChangesNothing book entry (with_entries book (book.entries ++ entry ∷ [])) }
 {}
 
-/// A ledger that knows only the calls could free no write sooner: of a life that began with every inverter at its floor,
-/// each live write since whose grant no read of its inverter was answered may be held, by an inverter that follows the
+/// A ledger that knows only the calls could free no write sooner: of a life that began with every inverter at
+/// its floor,
+/// each live write since whose grant no read of its inverter was answered may be held, by an inverter that
+/// follows the
 /// timed device, at a moment from the last of the book on.
 pub fn no_write_could_go_sooner()
     ensures { (book : BookRecord) → IsBook book → IsTight book }
 {}
 
-/// The claims of the inverters of a plant are feasible, whatever they wish for and whether they are strange or not.
+/// The claims of the inverters of a plant are feasible, whatever they wish for and whether they are strange
+/// or not.
 pub fn claims_are_feasible()
     ensures { (book : BookRecord) → IsOpenable book.site → IsFeasible book.site.cap (claims book) }
 {}

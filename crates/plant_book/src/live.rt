@@ -84,7 +84,8 @@ fn is_current(write: &Write, rules: &Rules, now: u64, inverter: u8) -> bool
 
 /// The write that an entry grants, if it is of the inverter and not past its last moment.
 fn current_grant(entry: &Entry, rules: &Rules, now: u64, inverter: u8) -> Option<Write>
-    ensures { option_to_list result ≡ filter (rule.is_current rules.now now inverter) (rule.grant_of entry.now) }
+    ensures { option_to_list result ≡ filter (rule.is_current rules.now now inverter)
+        (rule.grant_of entry.now) }
 {
     match entry.reply {
         Reply::Granted(write) if is_current(&write, rules, now, inverter) => Some(write),
@@ -92,7 +93,8 @@ fn current_grant(entry: &Entry, rules: &Rules, now: u64, inverter: u8) -> Option
     }
 }
 
-/// The write that an entry grants, if it is live at the moment. `behind` is how many entries end with this one.
+/// The write that an entry grants, if it is live at the moment. `behind` is how many entries end with this
+/// one.
 fn live_grant(
     rules: &Rules,
     entries: &[Entry],
@@ -103,7 +105,8 @@ fn live_grant(
 ) -> Option<Write>
     requires { behind ≤ length entries.now }
     ensures { option_to_list result ≡ filter (rule.is_current rules.now now inverter)
-        (filter (λ write. not (rule.ends_later rules.now (take behind entries.now) (drop behind entries.now) write))
+        (filter (λ write. not (rule.ends_later rules.now (take behind entries.now)
+        (drop behind entries.now) write))
         (rule.grant_of entry.now)) }
 {
     match current_grant(entry, rules, now, inverter) {

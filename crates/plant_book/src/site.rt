@@ -32,7 +32,9 @@ pub struct FloorOut {
 /// it goes back to when its reversion timer runs out (WMaxLimPctRvrt of SunSpec DER model 704).
 #[derive(Clone, Copy, Debug, PartialEq, Eq)]
 pub struct Unit {
+    /// The milliwatts that its raw percentages stand for.
     pub rating: Rating,
+    /// The floor as a raw percentage, at most the greatest of the rating.
     pub floor: u16,
     pub ghost within: { floor ≤ full_of rating.psf },
 }
@@ -57,7 +59,9 @@ impl Unit {
 pub struct Site {
     /// What all limits together stay under, in mW.
     pub cap: u64,
+    /// What is taken for granted of links and timers.
     pub rules: Rules,
+    /// How the watts that are free are shared.
     pub policy: Policy,
     /// How many calls a book of the site has room for.
     pub room: u32,
@@ -73,7 +77,8 @@ impl Model for Site {
 
     ghost view = { λ s. record { cap = s.cap; rules = s.rules; policy = s.policy; room = s.room; units = s.units.items } };
 
-    ghost invariant = { λ s. IsSite (record { cap = s.cap; rules = s.rules; policy = s.policy; room = s.room; units = s.units.items }) };
+    ghost invariant = { λ s. IsSite
+        (record { cap = s.cap; rules = s.rules; policy = s.policy; room = s.room; units = s.units.items }) };
 }
 
 impl Site {

@@ -25,10 +25,12 @@ entered book call reply = with_entries book (book.entries ++ entry_of book call 
 abbrev pub right_reply : BookRecord → Call → Reply
 right_reply book call = reply_to book (parts.entered book.start book.entries call)
 
--- Whatever past the life followed that fits, and whatever the inverters did that follow the timed device: the life is
+-- Whatever past the life followed that fits, and whatever the inverters did that follow the timed device: the
+-- life is
 -- safe at every moment.
 abbrev pub IsSafeLife : BookRecord → Type 0
-IsSafeLife book = (past : List writes.Write) → IsPast book.site book.start past → IsSafeAlways (life_after past book)
+IsSafeLife book = (past : List writes.Write) → IsPast book.site book.start past
+    → IsSafeAlways (life_after past book)
 
 -- what is true of the ledger's book after every call
 pub record IsKept (book : BookRecord) : Type 0 where

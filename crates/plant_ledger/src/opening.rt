@@ -19,7 +19,8 @@ pub enum OpenFault {
 
 /// Refuses a site that opens no book.
 pub fn refuse(site: &Site) -> Result<(), OpenFault>
-    ensures fault { MatchResult result (λ _. open_fault site.now ≡ None) (λ fault. open_fault site.now ≡ Some fault) }
+    ensures fault { MatchResult result (λ _. open_fault site.now ≡ None) (λ fault. open_fault site.now
+        ≡ Some fault) }
     ensures openable { OnOk result (IsOpenable site.now) }
 {
     let count = site.units.len();

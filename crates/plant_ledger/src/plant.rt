@@ -85,7 +85,8 @@ impl Plant {
         Ok(Plant { book })
     }
 
-    /// Enters a call with the greater of its moment and the last moment, and answers it. A Want wishes for at most
+    /// Enters a call with the greater of its moment and the last moment, and answers it. A Want wishes for at
+    /// most
     /// 10^14 mW.
     pub fn apply(&mut self, call: Call) -> Result<Outcome, BookFull>
         requires moment { moment call ≤ MOMENT_MAX }
@@ -109,7 +110,8 @@ impl Plant {
         ensures kept { IsBook self.new }
         ensures capped { sums.total self.new ≤ self.new.site.cap }
 
-        // Whatever past that fits the life followed, and whatever inverters did that follow the timed device. And no
+        // Whatever past that fits the life followed, and whatever inverters did that follow the timed device.
+        // And no
         // ledger that knows only the calls could free a write sooner.
         ensures safe { IsSafeLife self.new }
         ensures tight { IsTight self.new }
@@ -142,7 +144,8 @@ impl Plant {
         reply
     }
 
-    /// Gives back a write that was not sent and never will be: the Back of the ticket's write. A full book hands the
+    /// Gives back a write that was not sent and never will be: the Back of the ticket's write. A full book
+    /// hands the
     /// ticket back.
     pub fn release(&mut self, ticket: Ticket, at: u64) -> Result<Reply, (BookFull, Ticket)>
         requires moment { at ≤ MOMENT_MAX }

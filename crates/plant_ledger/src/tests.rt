@@ -166,6 +166,8 @@ fn a_grant_comes_with_the_one_ticket_of_its_write(rt: HostRuntime) -> Result<(),
     };
     let write = ticket.write();
     assert_eq!(rt; reply, Reply::Granted(write));
+    assert_ne!(rt; reply, Reply::Granted(Write { raw: 999, ..write }));
+    assert_ne!(rt; BookFull { calls: 1 }, BookFull { calls: 2 });
     assert_eq!(rt; write.raw, 1_000);
     assert_eq!(rt; ticket.spend(), write);
     assert_eq!(rt; plant.reserved(1), 6_000_000);

@@ -88,10 +88,14 @@ module _ (book : BookRecord) (kept : IsBook book) where
   unfolding total_at reserved_at
   still_live_fits =
       let total = total_at-capped book kept (now_of book) (omega arith) in
-      omega (arith, total, sum_same (inverters book.site)
-          (λ inverter. covering book.site inverter (filter (λ write. eqb write.inverter inverter) (still_live book)))
-          (λ inverter. covering book.site inverter (live book.site.rules book.entries (now_of book) inverter))
-          (λ inverter. ap (covering book.site inverter) (its_live inverter)))
+      omega (
+        arith,
+        total,
+        sum_same (inverters book.site)
+            (λ inverter. covering book.site inverter (filter (λ write. eqb write.inverter inverter) (still_live book)))
+            (λ inverter. covering book.site inverter (live book.site.rules book.entries (now_of book) inverter))
+            (λ inverter. ap (covering book.site inverter) (its_live inverter)),
+      )
 
   granted_until : (at : ℕ) → now_of book ≤ at → (its : List writes.Write) → ((write : writes.Write) → Contains its write → Contains (standing book.site.rules [] book.entries) write) → AllByRecursion (λ write. write.at ≤ at) its
   unfolding now_of

@@ -23,12 +23,15 @@ Begins book = IsSafeHistory (ending_in [] [] book)
 
 -- Whatever past and lives came before, with a life that has gone on they are still a safe history.
 abbrev pub GoesOn : BookRecord → BookRecord → Type 0
-GoesOn old new = (past : List writes.Write) (earlier : List BookRecord) → IsHistory (ending_in past earlier old) → IsSafeHistory (ending_in past earlier new)
+GoesOn old new = (past : List writes.Write) (earlier : List BookRecord)
+    → IsHistory (ending_in past earlier old) → IsSafeHistory (ending_in past earlier new)
 
 -- Whatever past and lives came before, with this one ended and the next begun they are a safe history.
 abbrev pub Restarts : BookRecord → BookRecord → Type 0
-Restarts old new = (past : List writes.Write) (earlier : List BookRecord) → IsHistory (ending_in past earlier old) → IsSafeHistory (ending_in past (earlier ++ old ∷ []) new)
+Restarts old new = (past : List writes.Write) (earlier : List BookRecord)
+    → IsHistory (ending_in past earlier old) → IsSafeHistory (ending_in past (earlier ++ old ∷ []) new)
 
 -- the writes of all inverters that are live at the last moment of a book
 abbrev pub still_live : BookRecord → List writes.Write
-still_live book = filter (λ write. nat_le (now_of book) (last_moment book.site.rules write.at)) (standing book.site.rules [] book.entries)
+still_live book = filter (λ write. nat_le (now_of book) (last_moment book.site.rules write.at))
+    (standing book.site.rules [] book.entries)

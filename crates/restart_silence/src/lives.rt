@@ -81,20 +81,24 @@ impl Lives {
         &self.plant
     }
 
-    /// Ends the life and begins the next one at a moment in ms: with an empty book, and with nothing remembered but
+    /// Ends the life and begins the next one at a moment in ms: with an empty book, and with nothing
+    /// remembered but
     /// the site. The ended plant is handed back with its book.
     pub fn restart(&mut self, alloc: Global, at: u64) -> Result<Plant, RestartFault>
         requires moment { at ≤ MOMENT_MAX }
         ensures ended { IfOk result (λ ended. ended ≡ self.old) }
         ensures begun { OnOk result (self.new ≡ record { site = self.old.site; start = at; entries = [] }) }
 
-        // Refused as back in time exactly where the moment is below the last one, and then nothing has changed.
+        // Refused as back in time exactly where the moment is below the last one, and then nothing has
+        // changed.
         ensures time { OnOk result (now_of self.old ≤ at) }
-        ensures time_back { IfErr result (λ fault. ((at < now_of self.old) × (fault ≡ RestartFault.TimeBack (now_of self.old)))
+        ensures time_back { IfErr result (λ fault. ((at < now_of self.old)
+            × (fault ≡ RestartFault.TimeBack (now_of self.old)))
             ⊎ ((now_of self.old ≤ at) × (fault ≡ RestartFault.NoMemory))) }
         ensures unchanged { OnErr result (self.new ≡ self.old) }
 
-        // Whatever lives came before: with the next one they are a history, safe at every moment. What is still live of
+        // Whatever lives came before: with the next one they are a history, safe at every moment. What is
+        // still live of
         // the ended book is a past that fits.
         ensures chain { OnOk result (Restarts self.old self.new) }
         ensures past { OnOk result (IsPast self.new.site self.new.start (still_live self.old)) }

@@ -23,11 +23,20 @@ fn a_restart_is_silent_until_earlier_writes_are_past(rt: HostRuntime) -> Result<
     let site = Site::new(10_000_000, rules, Policy::Open, 1_000, units);
     let mut lives = Lives::begin(rt.alloc(), site, 0).ok().ok_or("begin")?;
     let link = |at| Call::Link { at, inverter: 0 };
-    let ask = |at| Call::Ask { at, inverter: 0, raw: 1_000 };
+    let ask = |at| Call::Ask {
+        at,
+        inverter: 0,
+        raw: 1_000,
+    };
     assert_eq!(rt; reply(&rt, &mut lives, link(0))?, Reply::Linked(1));
     let granted = reply(&rt, &mut lives, ask(66_701))?;
     assert!(rt; matches!(granted, Reply::Granted(write) if write.number == 1));
-    assert!(rt; matches!(lives.restart(rt.alloc(), 66_700), Err(RestartFault::TimeBack(66_701))));
+    assert!(rt;
+        matches!(
+            lives.restart(rt.alloc(), 66_700),
+            Err(RestartFault::TimeBack(66_701))
+        )
+    );
     let Ok(ended) = lives.restart(rt.alloc(), 80_000) else {
         return Err("restart".into());
     };
@@ -35,7 +44,10 @@ fn a_restart_is_silent_until_earlier_writes_are_past(rt: HostRuntime) -> Result<
     assert_eq!(rt; ended.total(), 6_600_000);
     assert_eq!(rt; lives.plant().calls(), 0);
     assert_eq!(rt; reply(&rt, &mut lives, link(80_000))?, Reply::Linked(1));
-    assert_eq!(rt; reply(&rt, &mut lives, ask(146_700))?, Reply::Silent(146_700));
+    assert_eq!(rt;
+        reply(&rt, &mut lives, ask(146_700))?,
+        Reply::Silent(146_700)
+    );
     let granted = reply(&rt, &mut lives, ask(146_701))?;
     assert!(rt; matches!(granted, Reply::Granted(write) if write.at == 146_701));
     assert_ne!(rt; RestartFault::NoMemory, RestartFault::TimeBack(1));

@@ -7,8 +7,7 @@ use Rattle.toml.specs.Parse.{parse_document}
 use Rattle.limiter_num.specs.Timers.{reach}
 use Rattle.limiter_num.specs.declared.rules.Rules.{Rules}
 use Rattle.plant_book.specs.declared.site.Unit as unit
-use Rattle.plant_book.specs.Site.{SiteRecord, inverters, floor_at}
-use Rattle.plant_book.specs.Sums.{sum_below}
+use Rattle.plant_book.specs.Site.{SiteRecord, inverters, floors}
 use Rattle.plant_book.specs.Port.{PortRecord}
 use Rattle.site_config.specs.declared.key.Key.TheVariants as keys
 use Rattle.site_config.specs.declared.points.Points as points
@@ -54,10 +53,6 @@ least_renew rules = div_ceil (reach rules) 16
 
 abbrev pub renew_fault : Rules → ℕ → Option SiteFault
 renew_fault rules renew = if nat_lt renew (least_renew rules) then Some (RenewTooShort (least_renew rules)) else None
-
--- the milliwatts of all floors
-abbrev pub floors : SiteRecord → ℕ
-floors site = sum_below (inverters site) (floor_at site)
 
 abbrev pub floors_fault : SiteRecord → Option SiteFault
 floors_fault site = if nat_lt site.cap (floors site) then Some (FloorsOverCap (floors site)) else None

@@ -6,8 +6,8 @@ use Rattle.limiter_num.specs.declared.rules.Rules.{Rules}
 use Rattle.limiter_num.specs.Timers.{tmin, tmax, reach}
 use Rattle.limiter_num.specs.Rating.{mw, full, rated}
 use Rattle.plant_book.specs.declared.site.Unit as unit
-use Rattle.plant_book.specs.Site.{SiteRecord, inverters}
-use Rattle.site_config.specs.SiteFile.{SiteFileRecord, floors}
+use Rattle.plant_book.specs.Site.{SiteRecord, inverters, floors}
+use Rattle.site_config.specs.SiteFile.{SiteFileRecord}
 
 -- a line: its words, one space between two of them, and a line feed
 abbrev pub line_of : List (List ℕ) → List ℕ

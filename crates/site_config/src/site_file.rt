@@ -5,7 +5,7 @@ ghost use Rattle.plant_book.specs.Answered.{IsOpenable};
 ghost use Rattle.site_config.specs.Keys.{inverters_at};
 ghost use Rattle.site_config.specs.Checks.{first_fault};
 ghost use Rattle.site_config.specs.Reading.{MakesFile};
-ghost use Rattle.site_config.specs.SiteFile.{renew_fault, floors, floors_fault, file_checks, IsText, IsCause, IsSiteFile, IsInRange};
+ghost use Rattle.site_config.specs.SiteFile.{renew_fault, floors_fault, file_checks, IsText, IsCause, IsSiteFile, IsInRange};
 
 use crate::fault::{SiteError, SiteFault};
 use crate::fields::Fields;
@@ -60,25 +60,12 @@ fn check_renew(rules: &Rules, renew: u32) -> Result<(), SiteFault>
     Ok(())
 }
 
-/// The milliwatts of the floors of inverters.
-#[tactic(auto, unfolding(plant_book::specs::Sums::sum_below, plant_book::specs::Site::floor_at))]
-pub fn floors(site: &Site) -> u64
-    requires { inverters site.now ≤ 64 }
-    ensures { result ≡ floors site.now }
-{
-    let mut sum = 0;
-    for unit in &site.units {
-        sum += unit.rating.mw(unit.floor);
-    }
-    sum
-}
-
 /// Refuses floors that don't fit under the cap.
 fn check_floors(site: &Site) -> Result<(), SiteFault>
     requires { inverters site.now ≤ 64 }
     ensures { MatchResult result (λ _. floors_fault site.now ≡ None) (λ fault. floors_fault site.now ≡ Some fault) }
 {
-    let floors = floors(site);
+    let floors = site.floors();
     if floors > site.cap {
         return Err(SiteFault::FloorsOverCap(floors));
     }

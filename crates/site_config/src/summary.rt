@@ -3,7 +3,7 @@ ghost use Rattle.std.specs.Fmt.{decimal};
 ghost use Rattle.plant_book.specs.Site.{inverters};
 ghost use Rattle.site_config.specs.Summary.{number_line, site_lines, rules_lines, inverter_line, inverter_lines, summary};
 
-use crate::site_file::{SiteFile, floors};
+use crate::site_file::SiteFile;
 use itoa::Buffer;
 use limiter_num::{NoMemory, Rules};
 use plant_book::{Site, Unit};
@@ -33,7 +33,7 @@ fn put_site(text: &mut Vec<u8>, site: &Site) -> Result<(), AllocError>
 {
     put_line(text, "cap", site.cap)?;
     put_line(text, "inverters", site.units.len() as u64)?;
-    put_line(text, "floors", floors(site))
+    put_line(text, "floors", site.floors())
 }
 
 fn put_rules(text: &mut Vec<u8>, rules: &Rules) -> Result<(), AllocError>

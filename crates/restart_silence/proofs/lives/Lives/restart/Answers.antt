@@ -16,7 +16,7 @@ returns-clause-chain c =
     let kept = subst IsBook c.self.view_is c.latest-last.ensures.kept in
     let later : now_of old ≤ at = omega (arith, c.if-at-last.false, c.latest-last.ensures.moment, ap now_of c.self.view_is) in
     let begun : c.replace.new.dest ≡ empty_book old.site at =
-        c.replace.ensures.after ∙ c.in-Some.ensures ∙ ap (λ (s : SiteRecord). empty_book s at) (c.site.ensures ∙ ap (λ (b : BookRecord). b.site) c.self.view_is) in
+    c.replace.ensures.after ∙ c.in-Some.ensures ∙ ap (λ (s : SiteRecord). empty_book s at) (c.site.ensures ∙ ap (λ (b : BookRecord). b.site) c.self.view_is) in
     subst (λ (b : BookRecord). Restarts old b) (sym begun) (restarts old (empty_book old.site at) (IsBook-empty old.site at kept.openable c.requires.moment) refl later)
 
 pub returns-clause-past : goal.returns-clause-past
@@ -26,5 +26,5 @@ returns-clause-past c =
     let kept = subst IsBook c.self.view_is c.latest-last.ensures.kept in
     let later : now_of old ≤ at = omega (arith, c.if-at-last.false, c.latest-last.ensures.moment, ap now_of c.self.view_is) in
     let begun : c.replace.new.dest ≡ empty_book old.site at =
-        c.replace.ensures.after ∙ c.in-Some.ensures ∙ ap (λ (s : SiteRecord). empty_book s at) (c.site.ensures ∙ ap (λ (b : BookRecord). b.site) c.self.view_is) in
+    c.replace.ensures.after ∙ c.in-Some.ensures ∙ ap (λ (s : SiteRecord). empty_book s at) (c.site.ensures ∙ ap (λ (b : BookRecord). b.site) c.self.view_is) in
     subst (λ (b : BookRecord). IsPast b.site b.start (still_live old)) (sym begun) (still_live_past old kept at later)
