@@ -8,3 +8,5 @@ pub mod Causes
 pub mod Weights
 pub mod Consumption
 pub mod InverterLines
+pub mod SameFile
+pub mod OneMeaning

@@ -8,6 +8,7 @@ mod fault;
 mod fields;
 mod inverters;
 mod key;
+mod laws;
 mod points;
 mod settings;
 mod site_file;
@@ -16,6 +17,7 @@ mod tables;
 
 pub use fault::{SiteError, SiteFault};
 pub use key::Key;
+pub use laws::one_meaning;
 pub use site_file::{SITE_BYTES_MAX, SiteFile, site_of};
 pub use summary::summary_text;
 
