@@ -1,5 +1,5 @@
 -- Each reply leaves fewer requests, and a walk that is gone on with wants a read.
-use Rattle.std.proofs.Common.{◌≡◌, ℕ, suc, ◌+◌, ◌-◌, ◌*◌, ◌<◌, ◌≤◌, Bool, true, false, cond, eqb, leb, ltb, ℤ, pos, IsSome, List, [], ◌∷◌, ◌++◌, length, Option, Some, None, Result, Ok, Err, refl, ap, arith, length-append}
+use Rattle.std.proofs.Common.{◌≡◌, ℕ, suc, ◌+◌, ◌-◌, ◌*◌, ◌<◌, ◌≤◌, Bool, true, false, cond, eqb, leb, ℤ, pos, IsSome, List, [], ◌∷◌, ◌++◌, length, Option, Some, None, Result, Ok, Err, refl, ap, arith, length-append}
 use Rattle.std.proofs.lemmas.Bool.{leb-false}
 use Rattle.std.specs.Option.{option_map_or, option_map}
 use Rattle.modbus_pdu.specs.declared.pdu.Reply.{Reply}
@@ -9,8 +9,8 @@ use Rattle.model_discovery.specs.declared.found.Found.{Found}
 use Rattle.model_discovery.specs.declared.fault.WalkFault.{WalkFault}
 use Rattle.model_discovery.specs.declared.fault.WalkFault.TheVariants as walk_fault
 use Rattle.model_discovery.specs.Map.{Answer, Registers, Exception}
-use Rattle.model_discovery.specs.Chain.{is_mark, is_too_short, next_header, model_fault, missing}
-use Rattle.model_discovery.specs.Walking.{Place, Seeking, Reading, Finished, Failed, Walking, seek, close, take_in, read_header, told, walk_told, registers}
+use Rattle.model_discovery.specs.Chain.{is_mark, is_too_short, leaves_map, next_header, model_fault, absent_model}
+use Rattle.model_discovery.specs.WalkState.{Place, Seeking, Reading, Finished, Failed, WalkState, place_at_bases, place_at_end, state_after_model, state_after_header, state_after, walk_after, registers}
 use Rattle.readback.specs.declared.judging.Judged.{Judged}
 use Rattle.readback.specs.declared.judging.Judged.TheVariants as judged
 use Rattle.commissioning.specs.declared.fault.CommissionFault.{CommissionFault}
@@ -24,7 +24,7 @@ use Rattle.commissioning.specs.Ending.{reads_left, requests_left, frames_left}
 use Rattle.commissioning.specs.Keeping.{IsUnderway, Wants, IsSound}
 
 -- the reads that a walk has left
-abbrev left_of : Walking → ℕ
+abbrev left_of : WalkState → ℕ
 left_of walk = reads_left walk.place (length walk.models)
 
 -- a model that isn't at fault isn't the 129th
@@ -33,35 +33,35 @@ few_models : (n : ℕ) (a b c : Bool) (x y z : WalkFault) → leb 128 n ≡ a
 few_models n true b c x y z is e = absurd cc
 few_models n false b c x y z is e = leb-false _ _ is
 
-seek_fewer : (left : List ℕ) (models : List Found) → left_of (record { place = seek left; models = models }) < 130 + length left
+seek_fewer : (left : List ℕ) (models : List Found) → left_of (record { place = place_at_bases left; models = models }) < 130 + length left
 seek_fewer [] models = omega arith
 seek_fewer (base ∷ left) models = omega arith
 
 base_fewer : (base : ℕ) (left : List ℕ) (models : List Found) (marked : Bool)
-    → left_of (record { place = cond marked (Reading (base + 2)) (seek left); models = models }) < 130 + length left
+    → left_of (record { place = cond marked (Reading (base + 2)) (place_at_bases left); models = models }) < 130 + length left
 base_fewer base left models true = omega arith
 base_fewer base left models false = seek_fewer left models
 
-close_fewer : (models : List Found) (n : ℕ) (lacks : Option ℕ) → left_of (record { place = close lacks; models = models }) < 1 + n
+close_fewer : (models : List Found) (n : ℕ) (lacks : Option ℕ) → left_of (record { place = place_at_end lacks; models = models }) < 1 + n
 close_fewer models n None = omega arith
 close_fewer models n (Some id) = omega arith
 
 model_fewer : (models : List Found) (model : Found) (found : Option WalkFault) → model_fault models model ≡ found
-    → left_of (take_in models model found) < 1 + (128 - length models)
+    → left_of (state_after_model models model found) < 1 + (128 - length models)
 model_fewer models model None e =
     let few : length models < 128 =
-    few_models (length models) (leb 128 (length models)) (is_too_short models model) (ltb 65534 (next_header model)) _ _ _ refl e in
+    few_models (length models) (leb 128 (length models)) (is_too_short models model) (leaves_map (next_header model)) _ _ _ refl e in
     omega (arith, length-append models (model ∷ []))
 model_fewer models model (Some error) e = omega arith
 
 header_fewer : (models : List Found) (model : Found) (ended : Bool)
-    → left_of (cond ended (record { place = close (missing models); models = models }) (take_in models model (model_fault models model))) < 1 + (128 - length models)
-header_fewer models model true = close_fewer models (128 - length models) (missing models)
+    → left_of (cond ended (record { place = place_at_end (absent_model models); models = models }) (state_after_model models model (model_fault models model))) < 1 + (128 - length models)
+header_fewer models model true = close_fewer models (128 - length models) (absent_model models)
 header_fewer models model false = model_fewer models model (model_fault models model) refl
 
 -- a walk that wants a read has fewer left once it was told an answer
 told_fewer : (place : Place) (models : List Found) (answer : Answer) → IsUnderway place
-    → left_of (told place models answer) < reads_left place (length models)
+    → left_of (state_after place models answer) < reads_left place (length models)
 told_fewer (Seeking base left) models answer h = base_fewer base left models (is_mark answer)
 told_fewer (Reading next) models (Registers first second) h =
     header_fewer models (record { id = first; start = next; length = second }) (eqb first 0xFFFF)
@@ -75,15 +75,15 @@ walked_left (Reading next) models = omega arith
 walked_left Finished models = omega arith
 walked_left (Failed error) models = omega arith
 
-answer_fewer : (walk : Walking) (answer : Answer) → IsUnderway walk.place
-    → requests_left (walked (walk_told walk answer)) < 4 + left_of walk
+answer_fewer : (walk : WalkState) (answer : Answer) → IsUnderway walk.place
+    → requests_left (walked (walk_after walk answer)) < 4 + left_of walk
 answer_fewer walk answer h =
-    let after = walk_told walk answer in
+    let after = walk_after walk answer in
     let most : requests_left (walk_stage after.place after.models) ≤ 4 + left_of after = walked_left after.place after.models in
     let fewer : left_of after < left_of walk = told_fewer walk.place walk.models answer h in
     omega arith
 
-discovered_fewer : (walk : Walking) (heard : Result (List ℕ) CommissionFault) → IsUnderway walk.place
+discovered_fewer : (walk : WalkState) (heard : Result (List ℕ) CommissionFault) → IsUnderway walk.place
     → requests_left (discovered walk heard) < 4 + left_of walk
 discovered_fewer walk (Ok values) h = answer_fewer walk (registers values) h
 discovered_fewer walk (Err (fault.Exception code)) h = answer_fewer walk (Exception code) h
@@ -145,12 +145,12 @@ walk_wants (Reading next) models = tt
 walk_wants Finished models = tt
 walk_wants (Failed error) models = tt
 
-discovered_wants : (walk : Walking) (heard : Result (List ℕ) CommissionFault) → Wants (discovered walk heard)
+discovered_wants : (walk : WalkState) (heard : Result (List ℕ) CommissionFault) → Wants (discovered walk heard)
 discovered_wants walk (Ok values) =
-    let after = walk_told walk (registers values) in
+    let after = walk_after walk (registers values) in
     walk_wants after.place after.models
 discovered_wants walk (Err (fault.Exception code)) =
-    let after = walk_told walk (Exception code) in
+    let after = walk_after walk (Exception code) in
     walk_wants after.place after.models
 discovered_wants walk (Err (fault.Walk error)) = tt
 discovered_wants walk (Err (fault.Unfit at wanted found)) = tt

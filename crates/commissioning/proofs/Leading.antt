@@ -16,7 +16,7 @@ use Rattle.model_discovery.specs.declared.found.Found.{Found}
 use Rattle.model_discovery.specs.declared.walk.Next.{Next}
 use Rattle.model_discovery.specs.declared.walk.Next.TheVariants.{Read, Done}
 use Rattle.model_discovery.specs.Map.{Answer, Exception}
-use Rattle.model_discovery.specs.Walking.{Place, Seeking, Reading, Finished, Failed, Walking, walk_told, registers, next_read}
+use Rattle.model_discovery.specs.WalkState.{Place, Seeking, Reading, Finished, Failed, WalkState, walk_after, registers, next_read}
 use Rattle.readback.specs.declared.judging.Judged.{Judged}
 use Rattle.readback.specs.declared.judging.Judged.TheVariants as judged
 use Rattle.readback.specs.Frames.{read_pdu, limit_address, limit_pdu, read_back_pdu}
@@ -90,14 +90,14 @@ block_right : (count : ℕ) (values : List ℕ) → length values ≡ count → 
 block_right count values e =
     ap (λ (b : Bool). cond {A = Result (List ℕ) CommissionFault} b (Ok values) (Err fault.WrongReply)) (eq-eqb (length values) count e)
 
-told_right : (walk : Walking) (answer : Reply) (told' : Answer) → Tells answer told' → discovered walk (block_of 2 (Some answer)) ≡ walked (walk_told walk told')
+told_right : (walk : WalkState) (answer : Reply) (told' : Answer) → Tells answer told' → discovered walk (block_of 2 (Some answer)) ≡ walked (walk_after walk told')
 told_right walk (reply.Regs values) told' tells =
-    ap (discovered walk) (block_right 2 values tells.0) ∙ ap (λ (a : Answer). walked (walk_told walk a)) (sym tells.1)
+    ap (discovered walk) (block_right 2 values tells.0) ∙ ap (λ (a : Answer). walked (walk_after walk a)) (sym tells.1)
 told_right walk (reply.Exception function code) told' tells =
-    ap (λ (f : ℕ). discovered walk (block_of 2 (Some (reply.Exception f code)))) tells.0 ∙ ap (λ (a : Answer). walked (walk_told walk a)) (sym tells.1)
+    ap (λ (f : ℕ). discovered walk (block_of 2 (Some (reply.Exception f code)))) tells.0 ∙ ap (λ (a : Answer). walked (walk_after walk a)) (sym tells.1)
 told_right walk (reply.Wrote start count) told' tells = absurd tells
 
-walked_at : (target : Target) {all : List Exchange} {walk : Walking} → IsWalked target all walk → IsAt target all (walked walk)
+walked_at : (target : Target) {all : List Exchange} {walk : WalkState} → IsWalked target all walk → IsAt target all (walked walk)
 walked_at target begins = record { standing = refl; had = refl }
 walked_at target (goes_on {before} {all} {walk} {after = after'} start' count answer told' walked' wants next tells is) =
     let asks : wanted_pdu (next_read walk.place) ≡ Some (read_pdu start' count) = ap wanted_pdu wants in

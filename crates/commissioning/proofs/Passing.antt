@@ -19,8 +19,8 @@ use Rattle.model_discovery.specs.declared.fault.WalkFault.{WalkFault}
 use Rattle.model_discovery.specs.declared.walk.Next.{Next}
 use Rattle.model_discovery.specs.declared.walk.Next.TheVariants.{Read, Done}
 use Rattle.model_discovery.specs.Map.{Answer, Registers, Exception}
-use Rattle.model_discovery.specs.Chain.{first_of, is_mark, model_fault, missing}
-use Rattle.model_discovery.specs.Walking.{Place, Seeking, Reading, Finished, Failed, Walking, seek, close, take_in, told, walk_told, registers, next_read}
+use Rattle.model_discovery.specs.Chain.{first_of, is_mark, model_fault, absent_model}
+use Rattle.model_discovery.specs.WalkState.{Place, Seeking, Reading, Finished, Failed, WalkState, place_at_bases, place_at_end, state_after_model, state_after, walk_after, registers, next_read}
 use Rattle.readback.specs.declared.judging.Judged.{Judged}
 use Rattle.readback.specs.declared.judging.Judged.TheVariants as judged
 use Rattle.readback.specs.Frames.{read_pdu, limit_address, limit_pdu, read_back_pdu}
@@ -105,27 +105,27 @@ refused target had stage pdu frame error found reached asks cause =
     record { before = had; stage = stage; reached = reached; pdu = pdu; asks = asks; came = frame; exchange = refl; cause = cause }
 
 -- a walk that ends has a 702 and a 704
-closes : (models : List Found) (lacks : Option ℕ) → missing models ≡ lacks → close lacks ≡ Finished → missing models ≡ None
+closes : (models : List Found) (lacks : Option ℕ) → absent_model models ≡ lacks → place_at_end lacks ≡ Finished → absent_model models ≡ None
 closes models None e is = e
 closes models (Some id) e is = absurd cc
 
-takes_in : (models : List Found) (model : Found) (error : Option WalkFault) → (take_in models model error).place ≡ Finished → ⊥
+takes_in : (models : List Found) (model : Found) (error : Option WalkFault) → (state_after_model models model error).place ≡ Finished → ⊥
 takes_in models model None is = cc
 takes_in models model (Some error) is = cc
 
 header_ends : (models : List Found) (model : Found) (ended : Bool)
-    → (cond ended (record { place = close (missing models); models = models }) (take_in models model (model_fault models model))).place ≡ Finished
-    → missing (cond ended (record { place = close (missing models); models = models }) (take_in models model (model_fault models model))).models ≡ None
-header_ends models model true is = closes models (missing models) refl is
+    → (cond ended (record { place = place_at_end (absent_model models); models = models }) (state_after_model models model (model_fault models model))).place ≡ Finished
+    → absent_model (cond ended (record { place = place_at_end (absent_model models); models = models }) (state_after_model models model (model_fault models model))).models ≡ None
+header_ends models model true is = closes models (absent_model models) refl is
 header_ends models model false is = absurd (takes_in models model (model_fault models model) is)
 
-base_ends : (base : ℕ) (left : List ℕ) (marked : Bool) → cond marked (Reading (base + 2)) (seek left) ≡ Finished → ⊥
+base_ends : (base : ℕ) (left : List ℕ) (marked : Bool) → cond marked (Reading (base + 2)) (place_at_bases left) ≡ Finished → ⊥
 base_ends base left true is = cc
 base_ends base [] false is = cc
 base_ends base (next ∷ left) false is = cc
 
 told_ends : (place : Place) (models : List Found) (answer : Answer) (start count : ℕ) → next_read place ≡ Read start count
-    → (told place models answer).place ≡ Finished → missing (told place models answer).models ≡ None
+    → (state_after place models answer).place ≡ Finished → absent_model (state_after place models answer).models ≡ None
 told_ends (Seeking base left) models answer start count wants is = absurd (base_ends base left (is_mark answer) is)
 told_ends (Reading next) models (Registers first second) start count wants is =
     header_ends models (record { id = first; start = next; length = second }) (eqb first 0xFFFF) is
@@ -133,11 +133,11 @@ told_ends (Reading next) models (Exception code) start count wants is = absurd c
 told_ends Finished models answer start count wants is = absurd cc
 told_ends (Failed error) models answer start count wants is = absurd cc
 
-walk_ends : (target : Target) {all : List Exchange} {walk : Walking} → IsWalked target all walk → walk.place ≡ Finished → missing walk.models ≡ None
+walk_ends : (target : Target) {all : List Exchange} {walk : WalkState} → IsWalked target all walk → walk.place ≡ Finished → absent_model walk.models ≡ None
 walk_ends target begins is = absurd cc
 walk_ends target (goes_on {walk} start count heard answer walked' wants follows' tells after_is) is =
-    let ends = told_ends walk.place walk.models answer start count wants (sym (ap (λ (w : Walking). w.place) after_is) ∙ is) in
-    ap (λ (w : Walking). missing w.models) after_is ∙ ends
+    let ends = told_ends walk.place walk.models answer start count wants (sym (ap (λ (w : WalkState). w.place) after_is) ∙ is) in
+    ap (λ (w : WalkState). absent_model w.models) after_is ∙ ends
 
 record HasBoth (models : List Found) : Type 0 where
   capacity : Found
@@ -152,7 +152,7 @@ both_at models (Some x) None first second e = absurd cc
 both_at models (Some x) (Some y) first second e =
     record { capacity = x; first_capacity = first; controls = y; first_controls = second }
 
-has_both : (models : List Found) → missing models ≡ None → HasBoth models
+has_both : (models : List Found) → absent_model models ≡ None → HasBoth models
 has_both models e = both_at models (first_of 702 models) (first_of 704 models) refl refl e
 
 -- the stage of a walk that has gone on
@@ -186,7 +186,7 @@ wanted : (next : Next) (pdu : List ℕ) → wanted_pdu next ≡ Some pdu → IsW
 wanted (Read start count) pdu e = record { start = start; count = count; read = refl; pdu_is = cc }
 wanted Done pdu e = absurd cc
 
-pub discovered_passed : (target : Target) (had : List Exchange) (walk : Walking) (pdu : List ℕ) (frame : Frame) (heard : Result (List ℕ) CommissionFault)
+pub discovered_passed : (target : Target) (had : List Exchange) (walk : WalkState) (pdu : List ℕ) (frame : Frame) (heard : Result (List ℕ) CommissionFault)
     → Reached target had (Discovering walk) → asked_pdu target (Discovering walk) ≡ Some pdu → block_of 2 (heard_in target had frame) ≡ heard
     → Passed target (more target had pdu frame) (discovered walk heard)
 discovered_passed target had walk pdu frame heard reached asks is = told_passed heard is
@@ -195,7 +195,7 @@ discovered_passed target had walk pdu frame heard reached asks is = told_passed 
     is_wanted = wanted (next_read walk.place) pdu asks
 
     goes : (answer : Reply) (tells : Answer) → heard_in target had frame ≡ Some answer → Tells answer tells
-        → IsWalked target (more target had pdu frame) (walk_told walk tells)
+        → IsWalked target (more target had pdu frame) (walk_after walk tells)
     goes answer tells heard' right =
         let next : Follows target had (read_pdu is_wanted.start is_wanted.count) answer (more target had pdu frame) =
         subst (λ (p : List ℕ). Follows target had p answer (more target had pdu frame)) is_wanted.pdu_is (follows target had pdu frame answer heard') in
@@ -205,11 +205,11 @@ discovered_passed target had walk pdu frame heard reached asks is = told_passed 
         → Passed target (more target had pdu frame) (discovered walk heard)
     told_passed (Ok values) is =
         let block = block_ok 2 (heard_in target had frame) values is in
-        let after' = walk_told walk (registers values) in
+        let after' = walk_after walk (registers values) in
         walk_passed target (more target had pdu frame) after'.place after'.models (goes (reply.Regs values) (registers values) block.0 (block.1, refl))
         (λ error found cause. refused target had (Discovering walk) pdu frame error found reached asks (ap (discovered walk) is ∙ cause))
     told_passed (Err (fault.Exception code)) is =
-        let after' = walk_told walk (Exception code) in
+        let after' = walk_after walk (Exception code) in
         walk_passed target (more target had pdu frame) after'.place after'.models
         (goes (reply.Exception 3 code) (Exception code) (block_exception 2 (heard_in target had frame) code is) (refl, refl))
         (λ error found cause. refused target had (Discovering walk) pdu frame error found reached asks (ap (discovered walk) is ∙ cause))

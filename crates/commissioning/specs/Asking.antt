@@ -3,13 +3,13 @@ use Rattle.std.specs.Prelude.{ℕ, List, [], ◌∷◌, Option, Some, None, opti
 use Rattle.mbap_frames.specs.declared.frame.Frame.{Frame}
 use Rattle.model_discovery.specs.declared.walk.Next.{Next}
 use Rattle.model_discovery.specs.declared.walk.Next.TheVariants.{Read, Done}
-use Rattle.model_discovery.specs.Walking.{Walking, Seeking, next_read}
+use Rattle.model_discovery.specs.WalkState.{WalkState, Seeking, next_read}
 use Rattle.readback.specs.Frames.{read_pdu, limit_pdu, read_back_pdu}
 use Rattle.commissioning.specs.declared.target.Target.{Target}
 use Rattle.commissioning.specs.Stage.{Stage, Discovering, ReadingCapacity, ReadingControls, WritingFloor, ReadingBack, Commissioned, Refused, Standing}
 
 -- a commissioning begins with a walk from the first base on, and its first request is number 1
-abbrev pub first_walk : Walking
+abbrev pub first_walk : WalkState
 first_walk = record { place = Seeking 40000 (50000 ∷ 0 ∷ []); models = [] }
 
 abbrev pub start : Target → Standing

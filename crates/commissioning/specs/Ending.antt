@@ -1,6 +1,6 @@
 -- A commissioning ends: each frame leaves fewer that may be taken.
 use Rattle.std.specs.Prelude.{ℕ, ◌+◌, ◌-◌, ◌*◌, length}
-use Rattle.model_discovery.specs.Walking.{Place, Seeking, Reading, Finished, Failed}
+use Rattle.model_discovery.specs.WalkState.{Place, Seeking, Reading, Finished, Failed}
 use Rattle.commissioning.specs.Stage.{Stage, Discovering, ReadingCapacity, ReadingControls, WritingFloor, ReadingBack, Commissioned, Refused, Standing}
 
 -- at most so many reads of a walk are left behind so many models: one for each base, one for each model

@@ -1,12 +1,12 @@
 -- What the code keeps of a commissioning's stage, and what is true of it. No promise to a caller names this.
 use Rattle.std.specs.Prelude.{ℕ, ◌+◌, ◌≤◌}
-use Rattle.model_discovery.specs.Walking.{Place, Seeking, Reading, Finished, Failed, Walking}
+use Rattle.model_discovery.specs.WalkState.{Place, Seeking, Reading, Finished, Failed, WalkState}
 use Rattle.commissioning.specs.declared.steps.Stage as kept
 use Rattle.commissioning.specs.declared.steps.Stage.TheVariants as kept_stage
 use Rattle.commissioning.specs.Stage.{Stage, Discovering, ReadingCapacity, ReadingControls, WritingFloor, ReadingBack, Commissioned, Refused, Standing}
 use Rattle.commissioning.specs.Ending.{requests_left}
 
-abbrev pub stage_of : kept.Stage → Walking → Stage
+abbrev pub stage_of : kept.Stage → WalkState → Stage
 stage_of kept_stage.Discovering walk = Discovering walk
 stage_of (kept_stage.ReadingCapacity start base) walk = ReadingCapacity start base
 stage_of (kept_stage.ReadingControls base wmax wsf) walk = ReadingControls base wmax wsf

@@ -9,7 +9,7 @@ use Rattle.model_discovery.specs.declared.found.Found.{Found}
 use Rattle.model_discovery.specs.declared.walk.Next.TheVariants.{Read}
 use Rattle.model_discovery.specs.Map.{Answer, Exception}
 use Rattle.model_discovery.specs.Chain.{first_of}
-use Rattle.model_discovery.specs.Walking.{Finished, Walking, next_read, walk_told, registers}
+use Rattle.model_discovery.specs.WalkState.{Finished, WalkState, next_read, walk_after, registers}
 use Rattle.readback.specs.declared.judging.Judged.TheVariants as judged
 use Rattle.readback.specs.Frames.{read_pdu, limit_address, limit_pdu, read_back_pdu}
 use Rattle.readback.specs.Replies.{reply_of}
@@ -43,11 +43,11 @@ Tells (reply.Exception function code) answer = (function ≡ 3) × (answer ≡ E
 Tells (reply.Wrote start count) answer = ⊥
 
 -- The reads of a walk from its start on: each is the one that it wanted, and it was told what came.
-pub data IsWalked (target : Target) : List Exchange → Walking → Type 0 where
+pub data IsWalked (target : Target) : List Exchange → WalkState → Type 0 where
   begins : IsWalked target [] first_walk
-  goes_on : {before all : List Exchange} {walk after : Walking} (start count : ℕ) (heard : Reply) (answer : Answer)
+  goes_on : {before all : List Exchange} {walk after : WalkState} (start count : ℕ) (heard : Reply) (answer : Answer)
       → IsWalked target before walk → next_read walk.place ≡ Read start count
-      → Follows target before (read_pdu start count) heard all → Tells heard answer → after ≡ walk_told walk answer
+      → Follows target before (read_pdu start count) heard all → Tells heard answer → after ≡ walk_after walk answer
       → IsWalked target all after
 
 -- The walk has found its chain, and in it the first 702 and the first 704.

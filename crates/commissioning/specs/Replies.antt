@@ -12,7 +12,7 @@ use Rattle.plant_book.specs.Port.{PortRecord}
 use Rattle.model_discovery.specs.declared.found.Found.{Found}
 use Rattle.model_discovery.specs.Map.{Exception}
 use Rattle.model_discovery.specs.Chain.{first_of}
-use Rattle.model_discovery.specs.Walking.{Place, Seeking, Reading, Finished, Failed, Walking, walk_told, registers}
+use Rattle.model_discovery.specs.WalkState.{Place, Seeking, Reading, Finished, Failed, WalkState, walk_after, registers}
 use Rattle.readback.specs.declared.judging.Judged.{Judged}
 use Rattle.readback.specs.declared.judging.Judged.TheVariants as judged
 use Rattle.readback.specs.Frames.{limit_address}
@@ -42,13 +42,13 @@ walk_stage Finished models = ReadingCapacity (start_of 702 models) (start_of 704
 walk_stage (Seeking base left) models = Discovering (record { place = Seeking base left; models = models })
 walk_stage (Reading next) models = Discovering (record { place = Reading next; models = models })
 
-abbrev pub walked : Walking → Stage
+abbrev pub walked : WalkState → Stage
 walked walk = walk_stage walk.place walk.models
 
 -- a walk's read is answered by two registers or an exception, which the walk is told
-abbrev pub discovered : Walking → Result (List ℕ) CommissionFault → Stage
-discovered walk (Ok values) = walked (walk_told walk (registers values))
-discovered walk (Err (fault.Exception code)) = walked (walk_told walk (Exception code))
+abbrev pub discovered : WalkState → Result (List ℕ) CommissionFault → Stage
+discovered walk (Ok values) = walked (walk_after walk (registers values))
+discovered walk (Err (fault.Exception code)) = walked (walk_after walk (Exception code))
 discovered walk (Err error) = Refused error None
 
 -- the block of the 702: WMax and W_SF as they stand in their registers

@@ -1,6 +1,6 @@
 -- What is commissioned, and where a commissioning stands.
 use Rattle.std.specs.Prelude.{ℕ, ℤ, Option, Some, None}
-use Rattle.model_discovery.specs.Walking.{Walking}
+use Rattle.model_discovery.specs.WalkState.{WalkState}
 use Rattle.commissioning.specs.declared.fault.CommissionFault.{CommissionFault}
 use Rattle.commissioning.specs.declared.found.Record702.{Record702}
 use Rattle.commissioning.specs.declared.target.Target.{Target}
@@ -8,7 +8,7 @@ use Rattle.commissioning.specs.declared.target.Target.{Target}
 -- the stages of a commissioning in their order, and its two ends
 pub data Stage : Type 0 where
   -- the chain of models is walked over
-  Discovering : (walk : Walking) → Stage
+  Discovering : (walk : WalkState) → Stage
   -- the block of the first 702 is read, from its start on; the first 704 stands at the base
   ReadingCapacity : (start base : ℕ) → Stage
   -- the block of the first 704 is read; WMax and W_SF are those of the 702

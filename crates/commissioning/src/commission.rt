@@ -1,6 +1,6 @@
 //! The commissioning of one inverter.
 ghost use Rattle.std.specs.Prelude.{◌≡◌, ◌≢◌, ◌+◌, ◌≤◌, ◌<◌, ◌↔◌, Ok, OnErr, length, option_map, IfSome, IsSome, IsNone};
-ghost use Rattle.model_discovery.specs.Walking.{next_read};
+ghost use Rattle.model_discovery.specs.WalkState.{next_read};
 ghost use Rattle.readback.specs.Frames.{limit_pdu};
 ghost use Rattle.commissioning.specs.Asking.{wanted_pdu, request_frame};
 

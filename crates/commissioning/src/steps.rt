@@ -1,7 +1,7 @@
 //! The stages of a commissioning, and what a reply makes of each.
 ghost use Rattle.std.specs.Prelude.{◌≡◌, ◌≤◌, ◌<◌, ◌^◌, MatchResult, Ok, Err, None, Some};
 ghost use Rattle.std.specs.Result.{result_err};
-ghost use Rattle.model_discovery.specs.Walking.{Walking, fault_of};
+ghost use Rattle.model_discovery.specs.WalkState.{WalkState, fault_of};
 ghost use Rattle.readback.specs.Judging.{reply_judgement};
 ghost use Rattle.commissioning.specs.Replies as replies;
 ghost use Rattle.commissioning.specs.Keeping.{stage_of, IsUnderway, Wants};
@@ -120,7 +120,7 @@ fn after_answer(walk: &Walk) -> Stage
 
 /// The stage behind a reply to the read of the 702.
 fn read_capacity(base: u16, reply: Option<Reply>) -> Stage
-    ensures { (walk : Walking) → stage_of result walk ≡ replies.capacity_read base (replies.block_of 46 reply) }
+    ensures { (walk : WalkState) → stage_of result walk ≡ replies.capacity_read base (replies.block_of 46 reply) }
 {
     match block(reply, CAPACITY_REGISTERS) {
         Ok(registers) => match capacity(registers.as_slice()) {
@@ -140,7 +140,7 @@ fn read_controls(
     wsf: i16,
     reply: Option<Reply>,
 ) -> Stage
-    ensures { (walk : Walking) → stage_of result walk
+    ensures { (walk : WalkState) → stage_of result walk
         ≡ replies.controls_read unit.now port.now base wmax wsf (replies.block_of 55 reply) }
 {
     match block(reply, CONTROLS_REGISTERS) {
@@ -163,7 +163,7 @@ fn read_controls(
 
 /// The stage behind the points that were found.
 fn compared(unit: &Unit, port: &Port, found: Record702) -> Stage
-    ensures { (walk : Walking) → stage_of result walk ≡ replies.compared unit.now port.now found }
+    ensures { (walk : WalkState) → stage_of result walk ≡ replies.compared unit.now port.now found }
 {
     match misfit(unit, port, &found) {
         Some(fault) => Stage::Refused(fault, Some(found)),
@@ -200,7 +200,7 @@ fn unlike(point: Point, wanted: i64, found: i64) -> Option<CommissionFault>
 /// The stage behind a reply to the write of the floor.
 fn write_floor(port: &Port, found: Record702, reply: Option<Reply>) -> Stage
     requires { port.now.base ≤ 65514 }
-    ensures { (walk : Walking) → stage_of result walk ≡ replies.floor_written port.now found reply }
+    ensures { (walk : WalkState) → stage_of result walk ≡ replies.floor_written port.now found reply }
 {
     let address = port.base + M704_W_MAX_LIM_PCT_ENA as u16;
     match reply {
@@ -219,7 +219,7 @@ fn write_floor(port: &Port, found: Record702, reply: Option<Reply>) -> Stage
 
 /// The stage behind a reply to the read-back.
 fn read_back(unit: &Unit, rules: &Rules, found: Record702, reply: Option<Reply>) -> Stage
-    ensures { (walk : Walking) → stage_of result walk
+    ensures { (walk : WalkState) → stage_of result walk
         ≡ replies.read_back unit.now.floor found (reply_judgement unit.now.floor rules.now.timer reply) }
 {
     after_judgement(unit.floor, found, judge_reply(reply, unit, rules))
@@ -227,7 +227,7 @@ fn read_back(unit: &Unit, rules: &Rules, found: Record702, reply: Option<Reply>)
 
 /// The stage behind what a read-back showed.
 fn after_judgement(floor: u16, found: Record702, judged: Judged) -> Stage
-    ensures { (walk : Walking) → stage_of result walk ≡ replies.read_back floor found judged }
+    ensures { (walk : WalkState) → stage_of result walk ≡ replies.read_back floor found judged }
 {
     let fault = match judged {
         Judged::Shows(raw) if raw == floor => return Stage::Commissioned(found),

@@ -9,7 +9,7 @@ use Rattle.modbus_pdu.specs.declared.pdu.Request.TheVariants.{ReadRegs, WriteReg
 use Rattle.modbus_pdu.specs.declared.pdu.Reply.{Reply}
 use Rattle.modbus_pdu.specs.declared.pdu.Reply.TheVariants as reply
 use Rattle.modbus_pdu.specs.Grammar.{IsReadCount}
-use Rattle.der_models.specs.Limit.{double_word}
+use Rattle.scale_points.specs.Numbers.{double_word}
 use Rattle.inverter_sim.specs.Bank.{BankRecord, bank_at}
 use Rattle.inverter_sim.specs.RegisterMap.{register}
 
@@ -33,7 +33,7 @@ sets_limit unit rules values = (slice_index values 0 == 1)
     && nat_le (slice_index values 1) (full unit.rating)
     && (slice_index values 2 == unit.floor)
     && (slice_index values 3 == 1)
-    && (double_word values 4 == rules.timer)
+    && (double_word (slice_index values 4) (slice_index values 5) == rules.timer)
 
 -- the code with which a read, or a write, is refused (section 7): 2 for an illegal address, 3 for an illegal
 -- value

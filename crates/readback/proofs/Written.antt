@@ -5,7 +5,7 @@ use Rattle.std.proofs.lemmas.Bool.{eqb-true, eq-eqb, cond-true}
 use Rattle.modbus_pdu.specs.Grammar.{IsWord}
 use Rattle.modbus_pdu.specs.declared.pdu.Reply.TheVariants as reply
 use Rattle.der_models.specs.declared.limit.LimitView.{LimitView}
-use Rattle.der_models.specs.Limit.{limit_registers, limit_shown, ShowsLimit}
+use Rattle.der_models.specs.Limit.{limit_registers, view_of, ShowsLimit}
 use Rattle.limiter_num.specs.declared.rating.Point.{Point}
 use Rattle.readback.specs.declared.judging.Judged.{Judged}
 use Rattle.readback.specs.declared.judging.Judged.TheVariants as judged
@@ -79,8 +79,8 @@ written_shown raw floor timer values len written =
     let high : split.e ≡ timer / 65536 = cc in
     let low : split.f ≡ timer % 65536 = cc in
     let list = split.a ∷ split.b ∷ split.c ∷ split.d ∷ split.e ∷ split.f ∷ split.rest in
-    let view : limit_judgement floor timer (limit_shown values) ≡ judged.Shows split.b =
-    ap (λ (vs : List ℕ). limit_judgement floor timer (limit_shown vs)) split.are ∙ shown floor timer (limit_shown list) (cc) (cc) (cc) (omega arith) in
+    let view : limit_judgement floor timer (view_of values) ≡ judged.Shows split.b =
+    ap (λ (vs : List ℕ). limit_judgement floor timer (view_of vs)) split.are ∙ shown floor timer (view_of list) (cc) (cc) (cc) (omega arith) in
     let raw_is : split.b ≡ raw = cc in
     cond-true _ _ _ (eq-eqb _ _ len) ∙ view ∙ ap judged.Shows raw_is
 
@@ -92,12 +92,12 @@ pub shown_written : (raw floor timer : ℕ) (values : List ℕ) → AllByRecursi
     → reply_judgement floor timer (Some (reply.Regs values)) ≡ judged.Shows raw
     → (length values ≡ 8) × (take 6 values ≡ limit_registers raw floor timer)
 shown_written raw floor timer values fit e =
-    let passed = wrong_reply (eqb (length values) 8) (limit_judgement floor timer (limit_shown values)) raw e in
+    let passed = wrong_reply (eqb (length values) 8) (limit_judgement floor timer (view_of values)) raw e in
     let len : length values ≡ 8 = eqb-true _ _ passed.0 in
     let split = eight values len in
     let front = split.a ∷ split.b ∷ split.c ∷ split.d ∷ split.e ∷ split.f ∷ split.rest in
     let fits : AllByRecursion IsWord front = subst (AllByRecursion IsWord) split.are fit in
-    let shows : ShowsLimit raw floor timer (limit_shown front) = only_shown floor timer raw (limit_shown front) (sym (ap (λ (vs : List ℕ). limit_judgement floor timer (limit_shown vs)) split.are) ∙ passed.1) in
+    let shows : ShowsLimit raw floor timer (view_of front) = only_shown floor timer raw (view_of front) (sym (ap (λ (vs : List ℕ). limit_judgement floor timer (view_of vs)) split.are) ∙ passed.1) in
     let low_fits : split.f < 65536 = fits.1.1.1.1.1.0 in
     let tms : 65536 * split.e + split.f ≡ timer = shows.tms in
     let high : split.e ≡ timer / 65536 = omega arith in

@@ -4,7 +4,7 @@ use Rattle.modbus_pdu.specs.declared.pdu.Reply.{Reply}
 use Rattle.modbus_pdu.specs.declared.pdu.Reply.TheVariants as reply
 use Rattle.mbap_frames.specs.declared.frame.Frame.{Frame}
 use Rattle.der_models.specs.declared.limit.LimitView.{LimitView}
-use Rattle.der_models.specs.Limit.{limit_shown}
+use Rattle.der_models.specs.Limit.{view_of}
 use Rattle.limiter_num.specs.declared.rating.Point.TheVariants as point
 use Rattle.limiter_num.specs.declared.rules.Rules.{Rules}
 use Rattle.plant_book.specs.declared.call.Read as reads
@@ -29,7 +29,7 @@ abbrev pub reply_judgement : (floor timer : ℕ) → Option Reply → Judged
 reply_judgement floor timer (Some (reply.Exception function code)) =
     if function == 3 then judged.Exception code else judged.WrongReply
 reply_judgement floor timer (Some (reply.Regs values)) =
-    if length values == 8 then limit_judgement floor timer (limit_shown values) else judged.WrongReply
+    if length values == 8 then limit_judgement floor timer (view_of values) else judged.WrongReply
 reply_judgement floor timer (Some (reply.Wrote start count)) = judged.WrongReply
 reply_judgement floor timer None = judged.WrongReply
 
