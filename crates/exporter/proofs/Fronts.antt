@@ -6,13 +6,13 @@ use Rattle.plant_book.specs.declared.site.Unit as unit
 use Rattle.plant_book.specs.declared.call.Call.{Call}
 use Rattle.plant_book.specs.declared.call.Call.TheVariants as calls
 use Rattle.limiter_num.specs.Milliwatts.{IsRated, full_of}
-use Rattle.plant_book.specs.declared.site.TheConstants.{CAP_MAX, ROOM_MAX}
 use Rattle.std.proofs.Props.{props}
 use Rattle.exporter.specs.declared.line.SiteLine as site_line
 use Rattle.exporter.specs.declared.line.Line.{Line}
 use Rattle.exporter.specs.declared.line.Line.TheVariants as lines
 use Rattle.exporter.specs.declared.fields.Fields.{Fields}
 use Rattle.exporter.specs.declared.fields.Fields.TheVariants as fields
+use Rattle.exporter.specs.Ranges.{cap_most, room_most}
 use Rattle.exporter.specs.Text.{line_text}
 use Rattle.exporter.specs.Script.{IsScriptCall, IsLine}
 use Rattle.exporter.specs.Reading.{Judges, fields_at, fields_of}
@@ -98,7 +98,7 @@ same_rules a b send delay timer per_mille slack =
 
 same_site : (a b : site_line.SiteLine) → a.cap ≡ b.cap → a.rules ≡ b.rules → a.room ≡ b.room → a ≡ b
 same_site a b cap rules room =
-    over {A = ℕ × Rules × ℕ} {B = site_line.SiteLine} (λ n. (n.0 ≤ CAP_MAX) × (1 ≤ n.2) × (n.2 ≤ ROOM_MAX))
+    over {A = ℕ × Rules × ℕ} {B = site_line.SiteLine} (λ n. (n.0 ≤ cap_most) × (1 ≤ n.2) × (n.2 ≤ room_most))
     (λ n p. record { cap = n.0; rules = n.1; room = n.2; cap_high = p.0; room_low = p.1; room_high = p.2 }) (λ n. hlevel props)
     (a.cap, a.rules, a.room) (b.cap, b.rules, b.room) (λ i. (cap i, rules i, room i)) (a.cap_high, a.room_low, a.room_high) (b.cap_high, b.room_low, b.room_high)
 

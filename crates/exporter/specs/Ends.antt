@@ -7,7 +7,7 @@ use Rattle.exporter.specs.declared.ended.Ended.{Ended}
 use Rattle.exporter.specs.declared.ended.Ended.TheVariants as ends
 use Rattle.exporter.specs.Script.{LeavesFormAt}
 use Rattle.exporter.specs.Replay.{IsReplay}
-use Rattle.exporter.specs.Streams.{input_limit, Change, Fails, ReadsFront, ReadsWhole, ReadsBeyond}
+use Rattle.exporter.specs.Streams.{input_limit, Change, Fails, Works, ReadsFront, ReadsWhole, ReadsBeyond}
 use Rattle.exporter.specs.Streams.{GainsText, GainsFront, GainsNothing}
 
 -- the words are the one that asks for a replay
@@ -57,7 +57,7 @@ IsReplayEnd ends.ReadFault read input output =
 IsReplayEnd ends.WriteFault read input output =
     End (Fails output) (ReadsWhole read input) (GainsFront (IsReplay read) output)
 IsReplayEnd ends.NoMemory read input output =
-    End (Unit {0}) (ReadsFront read input) (GainsNothing output)
+    End (Works input) (ReadsFront read input) (GainsNothing output)
 IsReplayEnd (ends.TooLong limit) read input output =
     End (limit ≡ input_limit) (ReadsBeyond read input) (GainsNothing output)
 IsReplayEnd _ read input output = ⊥

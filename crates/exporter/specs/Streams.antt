@@ -25,40 +25,46 @@ change bytes faults old new = record {
   faults_new = faults new;
 }
 
--- the stream failed in the call
+-- a read or a write of the stream failed in the call
 abbrev pub Fails : Change → Type 0
 Fails stream = Rose stream.faults_old stream.faults_new
+
+-- no read or write of the stream failed in the call
+abbrev pub Works : Change → Type 0
+Works stream = stream.faults_new ≡ stream.faults_old
 
 -- these bytes were read, and they are no more than an input may have
 pub record ReadsFront (read : List ℕ) (input : Change) : Type 0 where
   pub bytes : Consumes input.old input.new read
   pub within : length read ≤ input_limit
 
--- these bytes were read, they are all of the input, and they are no more than it may have
+-- these bytes were read, they are all of the input, they are no more than it may have, and no read failed
 pub record ReadsWhole (read : List ℕ) (input : Change) : Type 0 where
   pub bytes : Consumes input.old input.new read
   pub within : length read ≤ input_limit
   pub at_end : IsAtEnd input.new
+  pub works : Works input
 
--- these bytes were read, and they are more than an input may have
+-- these bytes were read, they are more than an input may have, and no read failed
 pub record ReadsBeyond (read : List ℕ) (input : Change) : Type 0 where
   pub bytes : Consumes input.old input.new read
   pub beyond : input_limit < length read
+  pub works : Works input
 
 -- why a source was not read whole, and what was read of it: it failed, it gave a byte beyond the limit, or
 -- memory ran out
 abbrev pub StopsReading : InputFault → List ℕ → Change → Type 0
 StopsReading faults.Failed read input = Fails input × ReadsFront read input
 StopsReading faults.TooLong read input = ReadsBeyond read input
-StopsReading faults.NoMemory read input = ReadsFront read input
+StopsReading faults.NoMemory read input = Works input × ReadsFront read input
 
 -- the known bytes grow by the first bytes of a text
 abbrev pub AppendsFront : Option (List ℕ) → Option (List ℕ) → List ℕ → Type 0
 AppendsFront old new text = (count : ℕ) × Appends old new (take count text)
 
--- the output gained a text of this kind
+-- the output gained a text of this kind, and no write failed
 abbrev pub GainsText : (List ℕ → Type 0) → Change → Type 0
-GainsText IsText output = (text : List ℕ) × IsText text × Appends output.old output.new text
+GainsText IsText output = (text : List ℕ) × IsText text × Appends output.old output.new text × Works output
 
 -- the output gained the first bytes of a text of this kind
 abbrev pub GainsFront : (List ℕ → Type 0) → Change → Type 0
@@ -66,4 +72,4 @@ GainsFront IsText output = (text : List ℕ) × IsText text × AppendsFront outp
 
 -- nothing was done with the output
 abbrev pub GainsNothing : Change → Type 0
-GainsNothing output = (output.new ≡ output.old) × (output.faults_new ≡ output.faults_old)
+GainsNothing output = (output.new ≡ output.old) × Works output

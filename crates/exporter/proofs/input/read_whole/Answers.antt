@@ -15,14 +15,18 @@ returns-then-len-count-clause-fault g c = (
   record {
     bytes = consumes_more _ _ _ _ _ c.loop.invariant.front.bytes c.in-Ok.ensures.bytes.0;
     beyond = omega (arith, length-append {A = ℕ}, c.in-Ok.ensures.bound.1);
+    works = c.in-Ok.ensures.cause.kept ∙ c.loop.invariant.works;
   },
 )
 
 pub returns-then-is_err-clause-fault : goal.returns-then-is_err-clause-fault
 returns-then-is_err-clause-fault g c = (
   _,
-  record {
-    bytes = consumes_more _ _ _ _ _ c.loop.invariant.front.bytes c.in-Ok.ensures.bytes.0;
-    within = omega (arith, length-append {A = ℕ}, c.in-Ok.ensures.bound.1);
-  },
+  (
+    c.in-Ok.ensures.cause.kept ∙ c.loop.invariant.works,
+    record {
+      bytes = consumes_more _ _ _ _ _ c.loop.invariant.front.bytes c.in-Ok.ensures.bytes.0;
+      within = omega (arith, length-append {A = ℕ}, c.in-Ok.ensures.bound.1);
+    },
+  ),
 )

@@ -1,11 +1,11 @@
 use Rattle.std.proofs.Common.{◌≤◌, length}
-use Rattle.exporter.specs.Streams.{ReadsFront, change}
+use Rattle.exporter.specs.Streams.{ReadsFront, Works, change}
 use Rattle.exporter.proofs.input.read_whole.Given as goal
 
--- the bytes so far are the front of the source, and each turn took one at least
+-- no read failed, the bytes so far are the front of the source, and each turn took one at least
 abbrev pub invariant-loop : goal.invariant-loop
 invariant-loop g l = record {
-  later : g.S.Source.faults l.fn.source ≤ g.S.Source.faults l.source;
+  works : Works (change g.S.Source.left g.S.Source.faults l.fn.source l.source);
   front : ReadsFront l.bytes.items (change g.S.Source.left g.S.Source.faults l.fn.source l.source);
   turns : l.counter ≤ length l.bytes.items;
 }
