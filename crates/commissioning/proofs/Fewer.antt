@@ -1,5 +1,5 @@
 -- Each reply leaves fewer requests, and a walk that is gone on with wants a read.
-use Rattle.std.proofs.Common.{◌≡◌, ℕ, suc, ◌+◌, ◌-◌, ◌*◌, ◌<◌, ◌≤◌, Bool, true, false, cond, eqb, leb, ℤ, pos, IsSome, List, [], ◌∷◌, ◌++◌, length, Option, Some, None, Result, Ok, Err, refl, ap, arith, length-append}
+use Rattle.std.proofs.Common.{◌≡◌, ℕ, ◌+◌, ◌-◌, ◌*◌, ◌<◌, ◌≤◌, Bool, true, false, cond, eqb, leb, ℤ, pos, IsSome, List, [], ◌∷◌, length, Option, Some, None, Result, Ok, Err, refl, ap, arith, length-append}
 use Rattle.std.proofs.lemmas.Bool.{leb-false}
 use Rattle.std.specs.Option.{option_map_or, option_map}
 use Rattle.modbus_pdu.specs.declared.pdu.Reply.{Reply}
@@ -7,10 +7,9 @@ use Rattle.modbus_pdu.specs.declared.pdu.Reply.TheVariants as reply
 use Rattle.limiter_num.specs.declared.rating.Point.TheVariants as point
 use Rattle.model_discovery.specs.declared.found.Found.{Found}
 use Rattle.model_discovery.specs.declared.fault.WalkFault.{WalkFault}
-use Rattle.model_discovery.specs.declared.fault.WalkFault.TheVariants as walk_fault
 use Rattle.model_discovery.specs.Map.{Answer, Registers, Exception}
 use Rattle.model_discovery.specs.Chain.{is_mark, is_too_short, leaves_map, next_header, model_fault, absent_model}
-use Rattle.model_discovery.specs.WalkState.{Place, Seeking, Reading, Finished, Failed, WalkState, place_at_bases, place_at_end, state_after_model, state_after_header, state_after, walk_after, registers}
+use Rattle.model_discovery.specs.WalkState.{Place, Seeking, Reading, Finished, Failed, WalkState, place_at_bases, place_at_end, state_after_model, state_after, walk_after, registers}
 use Rattle.readback.specs.declared.judging.Judged.{Judged}
 use Rattle.readback.specs.declared.judging.Judged.TheVariants as judged
 use Rattle.commissioning.specs.declared.fault.CommissionFault.{CommissionFault}
@@ -19,7 +18,7 @@ use Rattle.commissioning.specs.declared.found.Record702.{Record702}
 use Rattle.commissioning.specs.declared.target.Target.{Target}
 use Rattle.commissioning.specs.Stage.{Stage, Discovering, ReadingCapacity, ReadingControls, WritingFloor, ReadingBack, Commissioned, Refused, Standing}
 use Rattle.commissioning.specs.Asking.{asked_pdu, asked, request_frame}
-use Rattle.commissioning.specs.Replies.{block_of, walk_stage, walked, discovered, capacity_read, misfit, compared, controls_read, floor_written, read_back, stage_after}
+use Rattle.commissioning.specs.Replies.{block_of, walk_stage, walked, discovered, capacity_read, controls_read, floor_written, read_back, stage_after}
 use Rattle.commissioning.specs.Ending.{reads_left, requests_left, frames_left}
 use Rattle.commissioning.specs.Keeping.{IsUnderway, Wants, IsSound}
 

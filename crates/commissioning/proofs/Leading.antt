@@ -2,7 +2,6 @@
 use Rattle.std.proofs.Common.{◌≡◌, ℕ, ◌+◌, ℤ, pos, Bool, true, false, cond, eqb, not, ◌&&◌, ltb, List, [], ◌∷◌, ◌++◌, length, map, Option, Some, None, Result, Ok, Err, refl, sym, ◌∙◌, ap, subst, length-append, arith}
 use Rattle.std.specs.Prelude.{IsSome}
 use Rattle.std.specs.Option.{option_or, option_map_or}
-use Rattle.std.specs.Ordering.{int_eq}
 use Rattle.std.proofs.lemmas.Bool.{eq-eqb, and_from}
 use Rattle.std.proofs.lemmas.Bool.Decides.{Decides-int_eq}
 use Rattle.std.proofs.lemmas.List.{map-append}
@@ -13,13 +12,9 @@ use Rattle.modbus_pdu.specs.declared.pdu.Reply.TheVariants as reply
 use Rattle.mbap_frames.specs.declared.frame.Frame.{Frame}
 use Rattle.der_models.specs.Models.{raw_wmax, raw_wsf, raw_psf}
 use Rattle.model_discovery.specs.declared.found.Found.{Found}
-use Rattle.model_discovery.specs.declared.walk.Next.{Next}
-use Rattle.model_discovery.specs.declared.walk.Next.TheVariants.{Read, Done}
-use Rattle.model_discovery.specs.Map.{Answer, Exception}
-use Rattle.model_discovery.specs.WalkState.{Place, Seeking, Reading, Finished, Failed, WalkState, walk_after, registers, next_read}
-use Rattle.readback.specs.declared.judging.Judged.{Judged}
-use Rattle.readback.specs.declared.judging.Judged.TheVariants as judged
-use Rattle.readback.specs.Frames.{read_pdu, limit_address, limit_pdu, read_back_pdu}
+use Rattle.model_discovery.specs.Map.{Answer}
+use Rattle.model_discovery.specs.WalkState.{Place, Seeking, Reading, Finished, Failed, WalkState, walk_after, next_read}
+use Rattle.readback.specs.Frames.{read_pdu, limit_address, read_back_pdu}
 use Rattle.readback.specs.Replies.{reply_of}
 use Rattle.readback.specs.Judging.{reply_judgement}
 use Rattle.commissioning.specs.declared.fault.CommissionFault.{CommissionFault}
@@ -27,12 +22,12 @@ use Rattle.commissioning.specs.declared.fault.CommissionFault.TheVariants as fau
 use Rattle.commissioning.specs.declared.found.Record702.{Record702}
 use Rattle.commissioning.specs.declared.target.Target.{Target}
 use Rattle.commissioning.specs.Stage.{Stage, Discovering, ReadingCapacity, ReadingControls, WritingFloor, ReadingBack, Commissioned, Refused, Standing}
-use Rattle.commissioning.specs.Asking.{first_walk, wanted_pdu, asked_pdu, start}
+use Rattle.commissioning.specs.Asking.{wanted_pdu, asked_pdu, start}
 use Rattle.commissioning.specs.Replies.{block_of, start_of, walk_stage, walked, discovered, capacity_read, unlike, misfit, compared, controls_read, floor_written, read_back, stage_after}
 use Rattle.commissioning.specs.Taking.{is_skipped, reply_in}
 use Rattle.commissioning.specs.Runs.{Exchange, after, standing_after, exchange_by, exchanges}
 use Rattle.commissioning.specs.Passed.{exchange_behind, Follows, Tells, IsWalked, begins, goes_on, IsDiscovered, HasCapacity, HasControls, IsFit, IsWritten, IsCommissioned, Reached, IsAt}
-use Rattle.commissioning.proofs.Moves.{exchanged, replied, IsReplied, replied_at, standing_after-more, exchanges-more}
+use Rattle.commissioning.proofs.Moves.{replied, replied_at, standing_after-more, exchanges-more}
 
 abbrev replies_of : List Exchange → List Frame
 replies_of all = map (λ x. x.reply) all

@@ -5,7 +5,7 @@ use Rattle.std.proofs.lemmas.List.{append-nil, map-append}
 use Rattle.std.proofs.lemmas.List.Sums.{fold-append}
 use Rattle.mbap_frames.specs.declared.frame.Frame.{Frame}
 use Rattle.commissioning.specs.declared.target.Target.{Target}
-use Rattle.commissioning.specs.Stage.{Stage, Standing}
+use Rattle.commissioning.specs.Stage.{Standing}
 use Rattle.commissioning.specs.Asking.{asked_pdu, asked, request_frame, start}
 use Rattle.commissioning.specs.Replies.{stage_after}
 use Rattle.commissioning.specs.Taking.{is_skipped, reply_in, taken}

@@ -1,6 +1,6 @@
 -- What has passed over the link still has, with the exchange of one reply more, at the stage behind that reply.
 use Rattle.std.proofs.Common.{◌≡◌, ℕ, ◌+◌, ℤ, pos, Bool, true, false, cond, eqb, ◌&&◌, List, [], ◌∷◌, ◌++◌, length, Option, Some, None, Result, Ok, Err, refl, sym, ◌∙◌, ap, subst, append_assoc, length-append, arith}
-use Rattle.std.specs.Prelude.{IsSome, is_none, fold}
+use Rattle.std.specs.Prelude.{is_none, fold}
 use Rattle.std.specs.Option.{option_or, option_map_or}
 use Rattle.std.specs.Ordering.{int_eq}
 use Rattle.std.proofs.lemmas.Bool.{eqb-true, and_parts}
@@ -11,9 +11,7 @@ use Rattle.limiter_num.specs.declared.rating.Point.TheVariants as point
 use Rattle.modbus_pdu.specs.declared.pdu.Reply.{Reply}
 use Rattle.modbus_pdu.specs.declared.pdu.Reply.TheVariants as reply
 use Rattle.mbap_frames.specs.declared.frame.Frame.{Frame}
-use Rattle.plant_book.specs.declared.site.Unit as units
-use Rattle.plant_book.specs.Port.{PortRecord}
-use Rattle.der_models.specs.Models.{raw_wmax, raw_wsf, raw_psf}
+use Rattle.der_models.specs.Models.{raw_psf}
 use Rattle.model_discovery.specs.declared.found.Found.{Found}
 use Rattle.model_discovery.specs.declared.fault.WalkFault.{WalkFault}
 use Rattle.model_discovery.specs.declared.walk.Next.{Next}
@@ -31,12 +29,12 @@ use Rattle.commissioning.specs.declared.fault.CommissionFault.TheVariants as fau
 use Rattle.commissioning.specs.declared.found.Record702.{Record702}
 use Rattle.commissioning.specs.declared.target.Target.{Target}
 use Rattle.commissioning.specs.Stage.{Stage, Discovering, ReadingCapacity, ReadingControls, WritingFloor, ReadingBack, Commissioned, Refused, Standing}
-use Rattle.commissioning.specs.Asking.{first_walk, wanted_pdu, request_frame, asked_pdu, start}
-use Rattle.commissioning.specs.Replies.{block_of, start_of, walk_stage, walked, discovered, capacity_read, unlike, misfit, compared, controls_read, floor_written, read_back, stage_after}
+use Rattle.commissioning.specs.Asking.{wanted_pdu, asked_pdu, start}
+use Rattle.commissioning.specs.Replies.{block_of, walk_stage, discovered, capacity_read, unlike, misfit, controls_read, floor_written, read_back, stage_after}
 use Rattle.commissioning.specs.Taking.{reply_in}
 use Rattle.commissioning.specs.Runs.{Exchange, after, standing_after, exchange_by, exchanges_from, exchanges}
-use Rattle.commissioning.specs.Passed.{exchange_behind, Follows, Tells, IsWalked, begins, goes_on, IsDiscovered, HasCapacity, HasControls, IsFit, IsWritten, IsCommissioned, Reached, IsRefused, Passed}
-use Rattle.commissioning.proofs.Moves.{Moves, over, skips, replies, moves, exchanged, replied}
+use Rattle.commissioning.specs.Passed.{exchange_behind, Follows, Tells, IsWalked, begins, goes_on, HasControls, IsFit, Reached, IsRefused, Passed}
+use Rattle.commissioning.proofs.Moves.{Moves, over, skips, replies, moves, exchanged}
 
 -- these exchanges and the one of a frame
 abbrev more : Target → List Exchange → List ℕ → Frame → List Exchange

@@ -1,5 +1,5 @@
 -- What the code keeps of a commissioning's stage, and what is true of it. No promise to a caller names this.
-use Rattle.std.specs.Prelude.{ℕ, ◌+◌, ◌≤◌}
+use Rattle.std.specs.Prelude.{◌+◌, ◌≤◌}
 use Rattle.model_discovery.specs.WalkState.{Place, Seeking, Reading, Finished, Failed, WalkState}
 use Rattle.commissioning.specs.declared.steps.Stage as kept
 use Rattle.commissioning.specs.declared.steps.Stage.TheVariants as kept_stage

@@ -1,5 +1,5 @@
 -- What a reply makes of each stage.
-use Rattle.std.specs.Prelude.{ℕ, ℤ, pos, ◌==◌, not, ◌&&◌, List, length, Option, Some, None, Result, Ok, Err, if◌then◌else◌}
+use Rattle.std.specs.Prelude.{ℕ, ℤ, pos, ◌==◌, ◌&&◌, List, length, Option, Some, None, Result, Ok, Err, if◌then◌else◌}
 use Rattle.std.specs.Option.{option_map_or, option_or}
 use Rattle.std.specs.Ordering.{int_eq}
 use Rattle.modbus_pdu.specs.declared.pdu.Reply.{Reply}
@@ -21,7 +21,7 @@ use Rattle.commissioning.specs.declared.fault.CommissionFault.{CommissionFault}
 use Rattle.commissioning.specs.declared.fault.CommissionFault.TheVariants as fault
 use Rattle.commissioning.specs.declared.found.Record702.{Record702}
 use Rattle.commissioning.specs.declared.target.Target.{Target}
-use Rattle.commissioning.specs.Stage.{Stage, Discovering, ReadingCapacity, ReadingControls, WritingFloor, ReadingBack, Commissioned, Refused, found_at}
+use Rattle.commissioning.specs.Stage.{Stage, Discovering, ReadingCapacity, ReadingControls, WritingFloor, ReadingBack, Commissioned, Refused}
 
 -- what comes to a read of so many registers: these, or an exception to function 03; anything else wasn't asked for
 abbrev pub block_of : (count : ℕ) → Option Reply → Result (List ℕ) CommissionFault

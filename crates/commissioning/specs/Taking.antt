@@ -1,5 +1,5 @@
 -- What a frame that comes makes of a commissioning.
-use Rattle.std.specs.Prelude.{ℕ, ◌+◌, ◌==◌, nat_lt, Bool, not, ◌&&◌, Option, Some, None, Result, Ok, Err, if◌then◌else◌}
+use Rattle.std.specs.Prelude.{ℕ, ◌+◌, ◌==◌, nat_lt, Bool, not, ◌&&◌, Option, None, Result, Ok, Err, if◌then◌else◌}
 use Rattle.modbus_pdu.specs.declared.pdu.Reply.{Reply}
 use Rattle.mbap_frames.specs.declared.frame.Frame.{Frame}
 use Rattle.readback.specs.Replies.{reply_of}

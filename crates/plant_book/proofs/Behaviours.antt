@@ -1,13 +1,12 @@
 -- The timed device is no empty premise: what inverters may have done.
-use Rattle.std.proofs.Common.{◌≡◌, ℕ, ◌+◌, ◌≤◌, true, false, ◌&&◌, eqb, List, [], ◌∷◌, ◌++◌, Option, Some, None, refl, sym, ap, subst, ◌∙◌, arith}
-use Rattle.std.specs.Prelude.{find, Contains, count_by}
+use Rattle.std.proofs.Common.{◌≡◌, ℕ, ◌+◌, ◌≤◌, false, [], ◌∷◌, Some, refl, sym, ap, subst, ◌∙◌, arith}
+use Rattle.std.specs.Prelude.{Contains, count_by}
 use Rattle.std.proofs.lemmas.Bool.{eq-eqb}
-use Rattle.limiter_num.specs.Timers.{tmin, tmax, last_act}
+use Rattle.limiter_num.specs.Timers.{tmax, last_act}
 use Rattle.plant_book.specs.Sums.{last_that}
-use Rattle.plant_book.specs.Site.{floor_raw_at}
-use Rattle.plant_book.specs.History.{History, Grant, Sight, grants, sights, is_granted_after, link_of_grant, link_of_sight}
-use Rattle.plant_book.specs.Behaviour.{Event, Act, Revert, Look, Timed, is_change, is_look_of, IsAsked, held, held_by, IsBehaviour, acts_last, acts_and_shows, IsUnseen, MayShow}
-use Rattle.plant_book.proofs.Growing.{tmin_le-tmax, IsStart, MayCome, nothing_stands, start_empty, start_push, behaviour_of, act_may, revert_may, look_may}
+use Rattle.plant_book.specs.History.{History, Grant, Sight, grants, is_granted_after}
+use Rattle.plant_book.specs.Behaviour.{Act, Revert, Look, Timed, is_change, is_look_of, held, IsBehaviour, acts_last, acts_and_shows, IsUnseen, MayShow}
+use Rattle.plant_book.proofs.Growing.{tmin_le-tmax, IsStart, nothing_stands, start_empty, start_push, behaviour_of, act_may, revert_may, look_may}
 
 timed_alike : (a b : Timed) → Some a ≡ Some b → a ≡ b
 timed_alike a b is = cc

@@ -1,6 +1,6 @@
 -- A history's cover: what bounds the limit of each inverter at its end. It is what was reserved in the last life that
 -- granted anything, or what the past and the floors come to.
-use Rattle.std.proofs.Common.{◌≡◌, ℕ, ◌+◌, ◌<◌, ◌≤◌, max, true, not, eqb, leb, List, [], ◌∷◌, ◌++◌, map, refl, sym, ap, subst, ◌∙◌, append_assoc, arith, inl, inr, ◌⊎◌}
+use Rattle.std.proofs.Common.{◌≡◌, ℕ, ◌+◌, ◌<◌, ◌≤◌, max, not, eqb, leb, List, [], ◌∷◌, ◌++◌, map, refl, sym, ap, subst, ◌∙◌, append_assoc, arith, inl, inr, ◌⊎◌}
 use Rattle.std.specs.Prelude.{filter, fold, Contains}
 use Rattle.std.specs.List.{flat_map, AllByRecursion}
 use Rattle.std.proofs.lemmas.Bool.{and_from, eq-eqb, le-leb}
@@ -16,14 +16,14 @@ use Rattle.plant_book.specs.declared.book.Entry.{Entry}
 use Rattle.plant_book.specs.Sums.{sum_below}
 use Rattle.plant_book.specs.Site.{SiteRecord, inverters, mw_at, floor_at}
 use Rattle.plant_book.specs.Book.{BookRecord}
-use Rattle.plant_book.specs.Calls.{moment, latest}
+use Rattle.plant_book.specs.Calls.{latest}
 use Rattle.plant_book.specs.Writes.{grant_of, granted, ends_later, standing, is_current, live}
 use Rattle.plant_book.specs.Reserved.{covering, reserved_at, reserved, total_at, now_of}
 use Rattle.plant_book.specs.Answered.{EachInTurn, IsAnswer, IsNext, IsBook, with_entries}
 use Rattle.plant_book.proofs.Steps.{latest-push}
 use Rattle.plant_book.proofs.Maxima.{only_element, fold_max_from, le_fold_max}
-use Rattle.plant_book.proofs.Granting.{IsCovered, granted_is_covered}
-use Rattle.plant_book.proofs.Freeing.{Passes, Contains-filter}
+use Rattle.plant_book.proofs.Granting.{granted_is_covered}
+use Rattle.plant_book.proofs.Freeing.{Contains-filter}
 use Rattle.plant_book.proofs.Cap.{total_at-capped}
 
 module _ (book : BookRecord) where

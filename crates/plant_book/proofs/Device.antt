@@ -1,5 +1,5 @@
 -- What an inverter holds is covered: whatever it did that follows the timed device.
-use Rattle.std.proofs.Common.{◌≡◌, ℕ, ◌+◌, ◌≤◌, Bool, true, eqb, List, [], ◌∷◌, ◌++◌, map, Option, Some, None, refl, sym, ap, subst, ◌∙◌, append_assoc, arith, inl, inr, ◌⊎◌}
+use Rattle.std.proofs.Common.{◌≡◌, ℕ, ◌+◌, ◌≤◌, eqb, List, [], ◌∷◌, ◌++◌, Option, Some, None, refl, sym, ap, subst, ◌∙◌, append_assoc, arith, inl, inr, ◌⊎◌}
 use Rattle.std.specs.Prelude.{filter, find, Contains, IsSomeAnd, slice_get}
 use Rattle.std.specs.List.{AllByRecursion}
 use Rattle.std.specs.Option.{option_or, option_map_or}
@@ -7,26 +7,23 @@ use Rattle.std.proofs.lemmas.Bool.{eq-eqb, and_parts, eqb-true}
 use Rattle.std.proofs.lemmas.List.Elements.{Contains-push, Contains-append_cases, Contains-append_left, Contains-append_right}
 use Rattle.std.proofs.lemmas.List.Folds.{find-append}
 use Rattle.limiter_num.specs.Rating.{mw}
-use Rattle.limiter_num.specs.declared.rules.Rules.{Rules}
 use Rattle.limiter_num.specs.Timers.{tmax, reach}
 use Rattle.plant_book.specs.declared.site.Unit as unit
 use Rattle.plant_book.specs.declared.call.Write as writes
-use Rattle.plant_book.specs.declared.book.Entry.{Entry}
-use Rattle.plant_book.specs.Sums.{last_that, sum_below}
-use Rattle.plant_book.specs.Site.{SiteRecord, inverters, mw_at, floor_at, floor_raw_at}
+use Rattle.plant_book.specs.Sums.{last_that}
+use Rattle.plant_book.specs.Site.{SiteRecord, mw_at, floor_at, floor_raw_at}
 use Rattle.plant_book.specs.Book.{BookRecord}
-use Rattle.plant_book.specs.Writes.{settles, standing}
 use Rattle.plant_book.specs.Reserved.{covering, now_of}
 use Rattle.plant_book.specs.Answered.{IsBook}
-use Rattle.plant_book.specs.History.{History, Grant, Sight, lives, grants, past_grants, life_grants, lives_grants, life_sights, lives_sights, sights, InTurn, first_start, IsHistory}
+use Rattle.plant_book.specs.History.{History, Grant, lives, past_grants, life_grants, lives_grants, life_sights, lives_sights, sights, InTurn, first_start, IsHistory}
 use Rattle.plant_book.specs.Behaviour.{Event, Act, Revert, Look, Timed, is_change, held, held_by, held_after, IsBehaviour}
 use Rattle.plant_book.specs.Held.{IsCut}
 use Rattle.plant_book.specs.Safe.{held_mw}
 use Rattle.plant_book.proofs.Maxima.{fold_max_from, le_fold_max, only_element}
 use Rattle.plant_book.proofs.Last.{last_that-stands, found_has}
-use Rattle.plant_book.proofs.Freeing.{FreedBy, freed_among, Fate, life_fate}
+use Rattle.plant_book.proofs.Freeing.{FreedBy, freed_among, life_fate}
 use Rattle.plant_book.proofs.Looks.{not_the_last}
-use Rattle.plant_book.proofs.Cover.{start_le_now, cover, IsLink, IsChain, floor_le_cover, StandsAmong, old_le_cover, standing_le_cover}
+use Rattle.plant_book.proofs.Cover.{start_le_now, cover, IsChain, floor_le_cover, StandsAmong, old_le_cover, standing_le_cover}
 
 -- the milliwatts of the floor's raw percentage are the floor's
 floor_by : (found : Option unit.Unit) → option_map_or (λ u. mw u.rating (option_map_or (λ v. v.floor) found 0)) found 0 ≡ option_map_or (λ u. mw u.rating u.floor) found 0

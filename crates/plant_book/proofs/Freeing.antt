@@ -1,7 +1,6 @@
 -- What becomes of a granted write: it stands, it was given back, or an answered read freed it.
-use Rattle.std.proofs.Common.{◌≡◌, ℕ, ◌+◌, ◌≤◌, Bool, true, false, cond, not, ◌&&◌, ◌||◌, eqb, List, [], ◌∷◌, ◌++◌, map, Option, Some, None, refl, sym, ap, subst, ◌∙◌, arith, inl, inr, ◌⊎◌}
+use Rattle.std.proofs.Common.{◌≡◌, ℕ, ◌+◌, Bool, true, false, not, ◌||◌, eqb, List, [], ◌∷◌, ◌++◌, map, Option, Some, None, refl, sym, ap, subst, ◌∙◌, arith, inl, inr, ◌⊎◌}
 use Rattle.std.specs.Prelude.{filter, Contains}
-use Rattle.std.specs.List.{list_any}
 use Rattle.std.proofs.lemmas.Bool.{cases_Bool, and_parts, or_cases, eq-eqb}
 use Rattle.std.proofs.lemmas.List.Elements.{Contains-push, Contains-append_cases, Contains-append_left, Contains-append_right}
 use Rattle.limiter_num.specs.declared.rules.Rules.{Rules}
@@ -13,9 +12,8 @@ use Rattle.plant_book.specs.declared.call.Write as writes
 use Rattle.plant_book.specs.declared.call.Read as reads
 use Rattle.plant_book.specs.declared.book.Entry.{Entry}
 use Rattle.plant_book.specs.Requests.{is_seen, pending_read}
-use Rattle.plant_book.specs.Writes.{settles, frees, is_freed, is_taken, is_numbered, grant_of, ends, ends_by, ends_later, standing}
-use Rattle.plant_book.specs.Book.{BookRecord}
-use Rattle.plant_book.specs.History.{Grant, Sight, gives_back, is_given_back, life_grants, lives_grants, sight_of, sight_by, life_sights, lives_sights}
+use Rattle.plant_book.specs.Writes.{settles, frees, is_freed, grant_of, ends, ends_by, ends_later, standing}
+use Rattle.plant_book.specs.History.{Grant, Sight, gives_back, is_given_back, life_grants, sight_of, sight_by, life_sights}
 use Rattle.plant_book.proofs.Maxima.{only_element}
 
 -- an answered read of this life that settles the write, and showed another raw percentage

@@ -1,11 +1,10 @@
 -- What an inverter may have done, one event after another.
-use Rattle.std.proofs.Common.{◌≡◌, ℕ, ◌+◌, ◌-◌, ◌*◌, ◌/◌, ◌≤◌, Bool, true, false, cond, List, [], ◌∷◌, ◌++◌, length, Option, Some, None, refl, sym, ap, subst, ◌∙◌, append_assoc, arith, inl, inr, ◌⊎◌}
+use Rattle.std.proofs.Common.{◌≡◌, ℕ, ◌+◌, ◌-◌, ◌*◌, ◌/◌, ◌≤◌, Bool, true, false, cond, List, [], ◌∷◌, ◌++◌, length, Option, Some, None, refl, sym, ap, subst, ◌∙◌, append_assoc, arith}
 use Rattle.std.specs.Prelude.{find, Contains, IsSomeAnd, count_by}
 use Rattle.std.specs.List.{AllByRecursion}
 use Rattle.std.specs.Option.{option_or}
 use Rattle.std.specs.Int.{div_ceil}
-use Rattle.std.proofs.lemmas.Bool.{cases_Bool}
-use Rattle.std.proofs.lemmas.List.{length-append, append-nil}
+use Rattle.std.proofs.lemmas.List.{length-append}
 use Rattle.std.proofs.lemmas.List.Folds.{find-append}
 use Rattle.std.proofs.lemmas.Grind.{div_ceil_times}
 use Rattle.std.proofs.Math.Nat.{div-mul-le_self, mul-le-mul_left}
@@ -13,8 +12,8 @@ use Rattle.limiter_num.specs.declared.rules.Rules.{Rules}
 use Rattle.limiter_num.specs.Timers.{tmin, tmax, last_act}
 use Rattle.plant_book.specs.Sums.{last_that}
 use Rattle.plant_book.specs.History.{History, Grant, Sight, grants, sights, is_granted_after, link_of_grant, link_of_sight}
-use Rattle.plant_book.specs.Behaviour.{Event, Act, Revert, Look, Timed, is_change, changes, IsAct, IsAsked, Precedes, IsBehaviour, is_look_of, held}
-use Rattle.plant_book.proofs.Places.{last_that-is, find_none-append}
+use Rattle.plant_book.specs.Behaviour.{Act, Revert, Look, Timed, is_change, IsAct, IsAsked, Precedes, IsBehaviour, is_look_of, held}
+use Rattle.plant_book.proofs.Places.{last_that-is}
 
 -- the shortest timer is no longer than the longest
 pub tmin_le-tmax : (rules : Rules) → tmin rules ≤ tmax rules

@@ -1,8 +1,7 @@
 -- What a look showed excludes each write that it freed from then on.
-use Rattle.std.proofs.Common.{◌≡◌, ℕ, ◌+◌, ◌<◌, ◌≤◌, Bool, true, false, cond, ◌&&◌, ◌||◌, eqb, ltb, List, [], ◌∷◌, ◌++◌, length, Option, Some, None, refl, sym, ap, subst, ◌∙◌, append_assoc, arith, inl, inr, ◌⊎◌}
+use Rattle.std.proofs.Common.{◌≡◌, ℕ, ◌+◌, ◌≤◌, Bool, true, false, cond, ◌&&◌, ◌||◌, eqb, ltb, List, [], ◌∷◌, ◌++◌, Option, Some, None, refl, sym, ap, subst, ◌∙◌, append_assoc, arith, inl, inr}
 use Rattle.std.specs.Prelude.{find, count_by, Contains}
-use Rattle.std.specs.List.{AllByRecursion}
-use Rattle.std.proofs.lemmas.Bool.{cases_Bool, and_parts, or_cases, eqb-true, ltb-true, eq-eqb}
+use Rattle.std.proofs.lemmas.Bool.{cases_Bool, and_parts, or_cases, eqb-true, ltb-true}
 use Rattle.std.proofs.lemmas.List.Elements.{Contains-append_cases}
 use Rattle.limiter_num.specs.Timers.{last_act}
 use Rattle.plant_book.specs.declared.call.Call.{Call}
@@ -19,8 +18,7 @@ use Rattle.plant_book.specs.History.{History, Grant, Sight, sight_of, sight_by, 
 use Rattle.plant_book.specs.Behaviour.{Event, Act, Revert, Look, Timed, is_change, is_look_of, held, held_by, IsBehaviour, Precedes}
 use Rattle.plant_book.specs.Held.{IsNoLook, IsCut}
 use Rattle.plant_book.proofs.Maxima.{only_element}
-use Rattle.plant_book.proofs.Freeing.{FreedBy}
-use Rattle.plant_book.proofs.Places.{Places, Same, Before, After, Earlier, places, find_none-append, last_that-is, Stands, counted_stands, count_by-append, count_by-none}
+use Rattle.plant_book.proofs.Places.{Same, Before, After, places, find_none-append, last_that-is, counted_stands, count_by-append, count_by-none}
 
 -- an answered read is known by the life and the place of its Saw
 record SeenAt (life place : ℕ) (sight : Sight) : Type 0 where

@@ -1,8 +1,8 @@
 -- The numbers of requests rise along a link, and where grants and answered reads stand.
-use Rattle.std.proofs.Common.{◌≡◌, ℕ, ◌+◌, ◌<◌, ◌≤◌, Bool, true, false, cond, not, eqb, leb, ltb, List, [], ◌∷◌, ◌++◌, length, map, Option, Some, None, refl, sym, ap, subst, ◌∙◌, append_assoc, arith, inl, inr}
-use Rattle.std.specs.Prelude.{filter, Contains, count_by, find, reverse}
+use Rattle.std.proofs.Common.{◌≡◌, ℕ, ◌+◌, ◌≤◌, Bool, true, false, cond, not, eqb, leb, ltb, List, [], ◌∷◌, ◌++◌, length, map, Option, Some, None, refl, sym, ap, subst, ◌∙◌, append_assoc, arith, inl, inr}
+use Rattle.std.specs.Prelude.{filter, Contains, find, reverse}
 use Rattle.std.specs.List.{list_any}
-use Rattle.std.proofs.lemmas.Bool.{cases_Bool, and_parts, eqb-true, eq-eqb}
+use Rattle.std.proofs.lemmas.Bool.{cases_Bool, eqb-true, eq-eqb}
 use Rattle.std.proofs.lemmas.List.{append-nil}
 use Rattle.std.proofs.lemmas.List.Elements.{Contains-push, Contains-append_cases, Contains-append_left, Contains-append_right}
 use Rattle.limiter_num.specs.declared.rules.Rules.{Rules}
@@ -19,12 +19,12 @@ use Rattle.plant_book.specs.Site.{mw_at, full_at, floor_raw_at}
 use Rattle.plant_book.specs.Book.{BookRecord}
 use Rattle.plant_book.specs.Calls.{moment}
 use Rattle.plant_book.specs.Requests.{is_link, links_to, link_number, grants_to, is_request, requests, is_seen, changes_by, changes_pending, read_of, pending_after, pending_read}
-use Rattle.plant_book.specs.Writes.{grant_of, granted, ends, ends_by, ends_later, standing, live, is_numbered}
+use Rattle.plant_book.specs.Writes.{grant_of, ends, ends_by, ends_later, standing, live, is_numbered}
 use Rattle.plant_book.specs.Policy.{is_sight, sees, target}
 use Rattle.plant_book.specs.Reserved.{unreserved_at}
 use Rattle.plant_book.specs.Answer.{reply_to, reply_to_ask, reply_by_policy, reply_by_watts, reply_to_read, reply_to_saw, reply_to_back, raise_at, write_at, silent_until, is_pending, is_raw_of}
 use Rattle.plant_book.specs.History.{Grant, Sight, gives_back, is_given_back, life_grants, sight_of, sight_by, life_sights}
-use Rattle.plant_book.proofs.Steps.{requests-push_link, requests-push, count_by-push}
+use Rattle.plant_book.proofs.Steps.{requests-push, count_by-push}
 use Rattle.plant_book.proofs.Granting.{rest_of}
 use Rattle.plant_book.proofs.Last.{last_that-stands, some_is}
 use Rattle.plant_book.proofs.Maxima.{only_element}

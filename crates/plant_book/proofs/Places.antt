@@ -1,5 +1,5 @@
 -- Where elements of a list stand: before, at or after one another.
-use Rattle.std.proofs.Common.{◌≡◌, ℕ, ◌+◌, ◌≤◌, Bool, true, false, cond, List, [], ◌∷◌, ◌++◌, Option, Some, None, refl, sym, ap, subst, ◌∙◌, append_assoc, arith, inl, inr, ◌⊎◌}
+use Rattle.std.proofs.Common.{◌≡◌, ◌+◌, ◌≤◌, Bool, true, false, cond, List, [], ◌∷◌, ◌++◌, Option, Some, None, refl, sym, ap, subst, ◌∙◌, arith, inl, inr}
 use Rattle.std.specs.Prelude.{find, count_by}
 use Rattle.std.specs.Option.{option_or}
 use Rattle.std.specs.List.{AllByRecursion}
@@ -7,7 +7,7 @@ use Rattle.std.proofs.lemmas.Bool.{cases_Bool}
 use Rattle.std.proofs.lemmas.List.Folds.{find-append}
 use Rattle.std.proofs.lemmas.List.Sums.{sum_by-append}
 use Rattle.plant_book.specs.Sums.{last_that}
-use Rattle.plant_book.proofs.Last.{last_that-cons, none_from_last}
+use Rattle.plant_book.proofs.Last.{last_that-cons}
 
 -- x stands at the end of some elements, then others, then y
 pub record Earlier {X : Type 0} (before : List X) (x : X) (after : List X) (later : List X) (y : X) (rest : List X) : Type 0 where

@@ -1,13 +1,11 @@
 -- Every history is safe at every moment.
-use Rattle.std.proofs.Common.{◌≡◌, ℕ, zero, suc, ◌+◌, ◌≤◌, Bool, true, false, cond, List, [], ◌∷◌, ◌++◌, length, take, refl, sym, ap, subst, ◌∙◌, append_assoc, arith}
+use Rattle.std.proofs.Common.{◌≡◌, ℕ, ◌+◌, ◌≤◌, Bool, true, false, cond, List, [], ◌∷◌, ◌++◌, take, refl, sym, ap, subst, ◌∙◌, arith}
 use Rattle.std.specs.List.{AllByRecursion}
-use Rattle.plant_book.specs.declared.book.Entry.{Entry}
 use Rattle.plant_book.specs.Site.{SiteRecord, inverters}
 use Rattle.plant_book.specs.Book.{BookRecord}
-use Rattle.plant_book.specs.Calls.{latest}
 use Rattle.plant_book.specs.declared.call.Write as writes
-use Rattle.plant_book.specs.Reserved.{covering, reserved, now_of}
-use Rattle.plant_book.specs.Answered.{EachInTurn, IsNext, IsBook, with_entries}
+use Rattle.plant_book.specs.Reserved.{covering, reserved}
+use Rattle.plant_book.specs.Answered.{IsBook, with_entries}
 use Rattle.plant_book.specs.History.{History, lives, InTurn, first_start, Fits, IsHistory, IsPast, life_after}
 use Rattle.plant_book.specs.Safe.{held_mw, IsSafe, IsSafeAlways, up_to}
 use Rattle.plant_book.proofs.Maxima.{sum_below-both}

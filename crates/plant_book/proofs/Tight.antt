@@ -1,39 +1,37 @@
 -- A live write since whose grant no read was answered may act at the last moment at which it may.
-use Rattle.std.proofs.Common.{◌≡◌, ℕ, ◌+◌, ◌<◌, ◌≤◌, max, Bool, true, false, cond, ◌&&◌, ◌||◌, eqb, leb, ltb, List, [], ◌∷◌, ◌++◌, length, Option, Some, None, refl, sym, ap, subst, ◌∙◌, append_assoc, arith, inl, inr, ◌⊎◌}
-use Rattle.std.specs.Prelude.{find, Contains, IsSomeAnd, count_by, filter}
+use Rattle.std.proofs.Common.{◌≡◌, ℕ, ◌+◌, ◌<◌, ◌≤◌, max, Bool, true, false, cond, ◌&&◌, ◌||◌, eqb, leb, ltb, List, [], ◌∷◌, ◌++◌, length, Option, Some, None, refl, sym, ap, subst, ◌∙◌, append_assoc, arith, inl, inr}
+use Rattle.std.specs.Prelude.{find, Contains, IsSomeAnd, count_by}
 use Rattle.std.specs.List.{AllByRecursion}
 use Rattle.std.specs.Option.{option_or}
 use Rattle.std.proofs.lemmas.Bool.{cases_Bool, cases_lt, and_parts, eq-eqb, leb-true, ltb-false}
 use Rattle.std.proofs.lemmas.List.{append-nil, length-append}
 use Rattle.std.proofs.lemmas.List.Elements.{Contains-append_cases, Contains-append_left}
 use Rattle.std.proofs.lemmas.List.Folds.{find-append}
-use Rattle.limiter_num.specs.Timers.{tmin, tmax, reach, last_act}
+use Rattle.limiter_num.specs.Timers.{tmax, reach, last_act}
 use Rattle.plant_book.specs.declared.call.Reply.{Reply}
 use Rattle.plant_book.specs.declared.call.Reply.TheVariants as replies
 use Rattle.plant_book.specs.declared.call.Write as writes
-use Rattle.plant_book.specs.declared.call.Read as reads
 use Rattle.plant_book.specs.declared.book.Entry.{Entry}
 use Rattle.plant_book.specs.Sums.{last_that}
 use Rattle.plant_book.specs.Book.{BookRecord}
 use Rattle.plant_book.specs.Calls.{moment, latest}
-use Rattle.plant_book.specs.Requests.{link_number, is_request, is_link, requests, grants_to}
+use Rattle.plant_book.specs.Requests.{link_number, requests, grants_to}
 use Rattle.plant_book.specs.Writes.{grant_of, is_current, standing, live}
 use Rattle.plant_book.specs.Policy.{is_sight}
 use Rattle.plant_book.specs.Reserved.{now_of}
 use Rattle.plant_book.specs.Answered.{EachInTurn, IsAnswer, IsNext, IsBook, with_entries}
-use Rattle.plant_book.specs.History.{History, Grant, Sight, grants, life_grants, sights, life_sights, life_after, is_granted_after, link_of_grant, link_of_sight}
+use Rattle.plant_book.specs.History.{History, Grant, Sight, grants, life_grants, sights, life_sights, life_after, link_of_grant}
 use Rattle.plant_book.specs.Behaviour.{Event, Act, Revert, Look, Timed, is_change, is_look_of, IsAsked, Precedes, IsBehaviour}
-use Rattle.plant_book.specs.Held.{IsCut}
 use Rattle.plant_book.specs.Tight.{IsUnreadSince, MayHold, IsTight}
 use Rattle.plant_book.proofs.Steps.{latest-push}
 use Rattle.plant_book.proofs.Granting.{IsCovered, granted_is_covered}
 use Rattle.plant_book.proofs.Freeing.{Contains-filter}
 use Rattle.plant_book.proofs.Cover.{granted_by}
 use Rattle.plant_book.proofs.Last.{last_that-stands, none_from_last, some_is}
-use Rattle.plant_book.proofs.Places.{Places, Same, Before, After, places, last_that-is, find_none-append, count_by-append, count_by-none}
-use Rattle.plant_book.proofs.Growing.{tmin_le-tmax, has_place, PushPlaces, AtLast, Sooner, push_places, IsStart, start_push, start_of, behaviour_of, all_map, all_push, act_may, revert_may}
+use Rattle.plant_book.proofs.Places.{Same, Before, After, places, last_that-is, find_none-append, count_by-append, count_by-none}
+use Rattle.plant_book.proofs.Growing.{tmin_le-tmax, has_place, AtLast, Sooner, push_places, IsStart, start_push, start_of, behaviour_of, all_map, all_push, act_may, revert_may}
 use Rattle.plant_book.proofs.Behaviours.{revert_is_no_act, no_act}
-use Rattle.plant_book.proofs.Numbers.{number_rises, request_is_no_link, IsReadAt, read_is_at, StandsAt, stands_at, grant_within, GrantAt, grant_at, SightAt, sight_at, ReadAt, read_at, last_that_passes, read_inverter, grant_is_no_sight}
+use Rattle.plant_book.proofs.Numbers.{number_rises, request_is_no_link, IsReadAt, read_is_at, StandsAt, stands_at, grant_within, grant_at, SightAt, sight_at, ReadAt, read_at, last_that_passes, read_inverter, grant_is_no_sight}
 
 -- what holds of each entry with those before it holds at a place, and from a place on
 each_at : (Fact : List Entry → Entry → Type 0) (before front : List Entry) (entry : Entry) (behind : List Entry) → EachInTurn Fact before (front ++ entry ∷ behind) → Fact (before ++ front) entry

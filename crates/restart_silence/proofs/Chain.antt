@@ -1,22 +1,20 @@
 -- A history whose last life goes on, or is followed by the next one, is a history.
-use Rattle.std.proofs.Common.{◌≡◌, ℕ, zero, suc, ◌+◌, ◌≤◌, Bool, true, false, ◌&&◌, eqb, leb, List, [], ◌∷◌, ◌++◌, refl, sym, ap, subst, ◌∙◌, arith}
+use Rattle.std.proofs.Common.{◌≡◌, ℕ, zero, suc, ◌+◌, ◌≤◌, Bool, true, false, ◌&&◌, eqb, leb, List, [], ◌∷◌, ◌++◌, refl, sym, ap, subst, arith}
 use Rattle.std.specs.Prelude.{filter, Contains}
 use Rattle.std.specs.List.{AllByRecursion}
 use Rattle.std.proofs.lemmas.List.Elements.{Contains-push, Contains-append_left, Contains-append_right}
-use Rattle.limiter_num.specs.Timers.{reach, last_moment}
+use Rattle.limiter_num.specs.Timers.{reach}
 use Rattle.plant_book.specs.declared.call.Write as writes
-use Rattle.plant_book.specs.declared.book.Entry.{Entry}
 use Rattle.plant_book.specs.Sums.{sum_below}
 use Rattle.plant_book.specs.Site.{SiteRecord, inverters}
 use Rattle.plant_book.specs.Book.{BookRecord}
-use Rattle.plant_book.specs.Calls.{latest}
-use Rattle.plant_book.specs.Writes.{grant_of, standing, is_current, live}
+use Rattle.plant_book.specs.Writes.{standing, is_current, live}
 use Rattle.plant_book.specs.Reserved.{covering, reserved_at, total_at, now_of}
 use Rattle.plant_book.specs.Answered.{IsBook}
 use Rattle.plant_book.specs.History.{History, lives, InTurn, first_start, Fits, IsHistory, IsPast}
 use Rattle.plant_book.proofs.Cap.{total_at-capped}
 use Rattle.plant_book.proofs.Cover.{grant_is_within, standing_granted}
-use Rattle.plant_book.proofs.Freeing.{Passes, Contains-filter}
+use Rattle.plant_book.proofs.Freeing.{Contains-filter}
 use Rattle.plant_book.proofs.Lifetime.{filter-both}
 use Rattle.plant_book.proofs.Safe.{safe_always, first_books, first_in_turn, first_start_is, life_is_history, no_past}
 use Rattle.restart_silence.specs.Chain.{ending_in, IsSafeHistory, Begins, GoesOn, Restarts, still_live}

@@ -1,11 +1,11 @@
 -- Lives one after another as one history.
-use Rattle.std.specs.Prelude.{◌≡◌, ℕ, nat_le, List, [], ◌∷◌, ◌++◌, filter}
+use Rattle.std.specs.Prelude.{nat_le, List, [], ◌∷◌, ◌++◌, filter}
 use Rattle.limiter_num.specs.Timers.{last_moment}
 use Rattle.plant_book.specs.declared.call.Write as writes
 use Rattle.plant_book.specs.Book.{BookRecord}
 use Rattle.plant_book.specs.Writes.{standing}
 use Rattle.plant_book.specs.Reserved.{now_of}
-use Rattle.plant_book.specs.History.{History, IsHistory, IsCommissioned}
+use Rattle.plant_book.specs.History.{History, IsHistory}
 use Rattle.plant_book.specs.Safe.{IsSafeAlways}
 
 -- a history with this last life

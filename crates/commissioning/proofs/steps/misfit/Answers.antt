@@ -4,7 +4,7 @@ use mir.Val.{SFits}
 use Rattle.limiter_num.specs.declared.rating.Point.{Point}
 use Rattle.limiter_num.specs.declared.rating.Point.TheVariants as point
 use Rattle.commissioning.specs.declared.fault.CommissionFault.{CommissionFault}
-use Rattle.commissioning.specs.Replies.{unlike, misfit}
+use Rattle.commissioning.specs.Replies.{unlike}
 use Rattle.commissioning.proofs.steps.misfit.Goals as goal
 
 -- a comparison of numbers that were made wider, which leaves them as they are

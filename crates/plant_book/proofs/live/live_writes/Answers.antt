@@ -1,4 +1,3 @@
-use Rattle.std.proofs.Common.{length}
 use Rattle.plant_book.proofs.Few.{live_few}
 use Rattle.plant_book.proofs.live.live_writes.Goals as goal
 

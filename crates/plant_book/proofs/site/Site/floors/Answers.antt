@@ -1,8 +1,8 @@
-use Rattle.std.proofs.Common.{◌≡◌, List, sym, ap, ◌∙◌}
+use Rattle.std.proofs.Common.{sym, ap, ◌∙◌}
 use Rattle.std.specs.Prelude.{sum_by}
 use Rattle.limiter_num.specs.Rating.{mw}
 use Rattle.plant_book.specs.declared.site.Unit as unit
-use Rattle.plant_book.specs.Site.{SiteRecord, floors}
+use Rattle.plant_book.specs.Site.{SiteRecord}
 use Rattle.plant_book.proofs.Inverters.{floors-is}
 use Rattle.plant_book.proofs.site.Site.floors.Goals as goal
 

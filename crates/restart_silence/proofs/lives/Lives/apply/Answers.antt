@@ -1,4 +1,4 @@
-use Rattle.std.proofs.Common.{◌≡◌, subst, ap, sym, ◌∙◌}
+use Rattle.std.proofs.Common.{◌≡◌, subst, ap}
 use Rattle.std.specs.Prelude.{Result, Ok, Err, IfOk, IfErr, length}
 use Rattle.plant_book.specs.declared.call.Call.{Call}
 use Rattle.plant_book.specs.Book.{BookRecord}
