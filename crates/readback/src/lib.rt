@@ -8,7 +8,9 @@ mod frames;
 mod judging;
 mod laws;
 
-pub use frames::{limit_request, read_back_request, read_request, registers_request, write_request};
+pub use frames::{
+    limit_request, read_back_request, read_request, registers_request, write_request,
+};
 pub use judging::{Judged, judge, judge_reply, reply_of};
 pub use laws::{replies_by_the_grammar, what_was_written_is_shown};
 
