@@ -1,0 +1,13 @@
+//! The texts of a plant's books: scripts of calls are read, and books are written.
+//!
+//! `script_of` reads a script, or tells its first bad line; `head_text`, `entry_text`, `restart_text` and `roll_text`
+//! write what was done of it. What a line spells, and which line is bad, stands in `specs/`.
+#![tactic(auto)]
+
+mod fields;
+mod line;
+mod number;
+mod script;
+
+pub use line::{Line, LineKind};
+pub use script::{ScriptFault};
