@@ -1,0 +1,6 @@
+pub mod LineEnds
+pub mod Numbers
+pub mod Spelled
+pub mod Steps
+pub mod Ranges
+pub mod Taken

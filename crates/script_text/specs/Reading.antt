@@ -96,24 +96,24 @@ next_at most (byte ∷ rest) = if byte == 32 then number_at most rest else None
 
 -- the number below zero of this size, which isn't 0
 abbrev pub below_zero : ℕ → ℕ → Option ℤ
-below_zero size_most size = if size == 0 then None else Some (negsuc (min size size_most - 1))
+below_zero most_size size = if size == 0 then None else Some (negsuc (min size most_size - 1))
 
 -- its size, and a space and a number from zero on
 abbrev pub negative_at : ℕ → ℕ → List ℕ → Option (ℤ × List ℕ)
-negative_at most size_most bytes = do
+negative_at most most_size bytes = do
   size ← number_at most bytes
-  number ← below_zero size_most size.0
+  number ← below_zero most_size size.0
   Some (number, size.1)
 
 abbrev pub positive_at : ℕ → ℕ → List ℕ → Option (ℤ × List ℕ)
-positive_at most size_most bytes = do
+positive_at most most_size bytes = do
   size ← next_at most bytes
-  Some (pos (min size.0 size_most), size.1)
+  Some (pos (min size.0 most_size), size.1)
 
 -- a space and a number that may be below zero
 unfoldable pub signed_at : ℕ → ℕ → List ℕ → Option (ℤ × List ℕ)
-signed_at most size_most bytes =
-    reading (rest_after (codes " -") bytes) (negative_at most size_most) (positive_at most size_most bytes)
+signed_at most most_size bytes =
+    reading (rest_after (codes " -") bytes) (negative_at most most_size) (positive_at most most_size bytes)
 
 unfoldable pub policy_at : List ℕ → Option (Policy × List ℕ)
 policy_at bytes =
@@ -171,17 +171,17 @@ site_at most bytes = do
   Some (fields.Site cap.0 send.0 delay.0 timer.0 per_mille.0 slack.0 policy.0 room.0, rest)
 
 unfoldable pub inverter_at : ℕ → ℕ → List ℕ → Option (Fields × List ℕ)
-inverter_at most size_most bytes = do
+inverter_at most most_size bytes = do
   wmax ← next_at most bytes
-  wsf ← signed_at most size_most wmax.1
-  psf ← signed_at most size_most wsf.1
+  wsf ← signed_at most most_size wmax.1
+  psf ← signed_at most most_size wsf.1
   floor ← next_at most psf.1
   rest ← end_at floor.1
   Some (fields.Inverter wmax.0 wsf.0 psf.0 floor.0, rest)
 
 -- the numbers of the row at the front
 unfoldable pub fields_at : ℕ → ℕ → List ℕ → Option (Fields × List ℕ)
-fields_at most size_most bytes =
+fields_at most most_size bytes =
     reading (rest_after (codes "tick") bytes) (one_at most fields.Tick)
     (reading (rest_after (codes "ask") bytes) (three_at most fields.Ask)
     (reading (rest_after (codes "read") bytes) (two_at most fields.Read)
@@ -192,7 +192,7 @@ fields_at most size_most bytes =
     (reading (rest_after (codes "stop") bytes) (one_at most fields.Stop)
     (reading (rest_after (codes "restart") bytes) (one_at most fields.Restart)
     (reading (rest_after (codes "roll") bytes) (none_at fields.Roll)
-    (reading (rest_after (codes "inverter") bytes) (inverter_at most size_most)
+    (reading (rest_after (codes "inverter") bytes) (inverter_at most most_size)
     (reading (rest_after (codes "site") bytes) (site_at most)
     (reading (rest_after (codes "begin") bytes) (one_at most fields.Begin) None))))))))))))
 
@@ -217,28 +217,28 @@ statement_of fields.Roll = Says lines.Roll
 
 -- a number that may be below zero, of no greater size than this
 abbrev pub cut : ℕ → ℤ → ℤ
-cut size_most (pos size) = pos (min size size_most)
-cut size_most (negsuc size) = negsuc (min (suc size) size_most - 1)
+cut most_size (pos size) = pos (min size most_size)
+cut most_size (negsuc size) = negsuc (min (suc size) most_size - 1)
 
 -- the numbers of a statement, as they are read
 abbrev pub fields_of : ℕ → ℕ → Statement → Fields
-fields_of most size_most (Site cap send delay timer per_mille slack policy room) =
+fields_of most most_size (Site cap send delay timer per_mille slack policy room) =
     fields.Site (min cap most) (min send most) (min delay most) (min timer most) (min per_mille most)
     (min slack most) policy (min room most)
-fields_of most size_most (Inverter wmax wsf psf floor) =
-    fields.Inverter (min wmax most) (cut size_most wsf) (cut size_most psf) (min floor most)
-fields_of most size_most (Begin at) = fields.Begin (min at most)
-fields_of most size_most (Says (lines.One (calls.Link at inverter))) = fields.Link (min at most) (min inverter most)
-fields_of most size_most (Says (lines.One (calls.Ask at inverter raw))) =
+fields_of most most_size (Inverter wmax wsf psf floor) =
+    fields.Inverter (min wmax most) (cut most_size wsf) (cut most_size psf) (min floor most)
+fields_of most most_size (Begin at) = fields.Begin (min at most)
+fields_of most most_size (Says (lines.One (calls.Link at inverter))) = fields.Link (min at most) (min inverter most)
+fields_of most most_size (Says (lines.One (calls.Ask at inverter raw))) =
     fields.Ask (min at most) (min inverter most) (min raw most)
-fields_of most size_most (Says (lines.One (calls.Read at inverter))) = fields.Read (min at most) (min inverter most)
-fields_of most size_most (Says (lines.One (calls.Saw at inverter number raw))) =
+fields_of most most_size (Says (lines.One (calls.Read at inverter))) = fields.Read (min at most) (min inverter most)
+fields_of most most_size (Says (lines.One (calls.Saw at inverter number raw))) =
     fields.Saw (min at most) (min inverter most) (min number most) (min raw most)
-fields_of most size_most (Says (lines.One (calls.Back at inverter link number))) =
+fields_of most most_size (Says (lines.One (calls.Back at inverter link number))) =
     fields.Back (min at most) (min inverter most) (min link most) (min number most)
-fields_of most size_most (Says (lines.One (calls.Want at inverter mw))) =
+fields_of most most_size (Says (lines.One (calls.Want at inverter mw))) =
     fields.Want (min at most) (min inverter most) (min mw most)
-fields_of most size_most (Says (lines.One (calls.Tick at))) = fields.Tick (min at most)
-fields_of most size_most (Says (lines.One (calls.Stop at))) = fields.Stop (min at most)
-fields_of most size_most (Says (lines.Restart at)) = fields.Restart (min at most)
-fields_of most size_most (Says lines.Roll) = fields.Roll
+fields_of most most_size (Says (lines.One (calls.Tick at))) = fields.Tick (min at most)
+fields_of most most_size (Says (lines.One (calls.Stop at))) = fields.Stop (min at most)
+fields_of most most_size (Says (lines.Restart at)) = fields.Restart (min at most)
+fields_of most most_size (Says lines.Roll) = fields.Roll

@@ -91,33 +91,33 @@ InRange (Says (kinds_of_line.One call)) =
 InRange (Says (kinds_of_line.Restart at)) = at ≤ MOMENT_MAX
 InRange (Says kinds_of_line.Roll) = Unit {0}
 
--- the inverter that it names is one of the site's
-abbrev pub OfSite : List Statement → Statement → Type 0
-OfSite before (Says (kinds_of_line.One call)) =
-    IfSome (named call) (λ inverter. inverter < inverters_in before)
-OfSite before _ = Unit {0}
+-- the inverter that it names is one of so many
+abbrev pub OfSite : ℕ → Statement → Type 0
+OfSite inverters (Says (kinds_of_line.One call)) = IfSome (named call) (λ inverter. inverter < inverters)
+OfSite inverters _ = Unit {0}
 
 -- its moment isn't below the last one
-abbrev pub InTime : List Statement → Statement → Type 0
-InTime before (Says (kinds_of_line.One call)) = latest_in before ≤ moment call
-InTime before (Says (kinds_of_line.Restart at)) = latest_in before ≤ at
-InTime before _ = Unit {0}
+abbrev pub InTime : ℕ → Statement → Type 0
+InTime latest (Says (kinds_of_line.One call)) = latest ≤ moment call
+InTime latest (Says (kinds_of_line.Restart at)) = latest ≤ at
+InTime latest _ = Unit {0}
 
 -- a statement that may stand behind these
 pub record MayFollow (before : List Statement) (statement : Statement) : Type 0 where
   pub place : HasPlace before statement
   pub range : InRange statement
-  pub of_site : OfSite before statement
-  pub in_time : InTime before statement
+  pub of_site : OfSite (inverters_in before) statement
+  pub in_time : InTime (latest_in before) statement
 
 -- the first of these that a statement doesn't meet
 abbrev pub Lacks : LineKind → List Statement → Statement → Type 0
 Lacks kinds.Form before statement = HasPlace before statement → ⊥
 Lacks kinds.Value before statement = HasPlace before statement × (InRange statement → ⊥)
 Lacks kinds.Inverter before statement =
-    HasPlace before statement × InRange statement × (OfSite before statement → ⊥)
+    HasPlace before statement × InRange statement × (OfSite (inverters_in before) statement → ⊥)
 Lacks kinds.Time before statement =
-    HasPlace before statement × InRange statement × OfSite before statement × (InTime before statement → ⊥)
+    HasPlace before statement × InRange statement × OfSite (inverters_in before) statement
+    × (InTime (latest_in before) statement → ⊥)
 
 -- each of the later statements may follow those before it
 abbrev pub EachMayFollow : List Statement → List Statement → Type 0

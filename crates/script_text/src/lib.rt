@@ -5,9 +5,13 @@
 #![tactic(auto)]
 
 mod fields;
+mod head;
+mod judging;
+mod laws;
 mod line;
 mod number;
+mod rows;
 mod script;
 
 pub use line::{Line, LineKind};
-pub use script::{ScriptFault};
+pub use script::{SCRIPT_BYTES_MAX, Script, ScriptFault, script_of};
