@@ -74,6 +74,13 @@ impl Book {
         latest(self.start, &self.entries)
     }
 
+    /// The moment at which the book begins, in ms.
+    pub(crate) fn start(&self) -> u64
+        ensures { result ≡ self.now.start }
+    {
+        self.start
+    }
+
     /// Writes one more entry at the end.
     pub fn push(&mut self, entry: Entry)
         requires { length self.old.entries < self.old.site.room }
@@ -200,7 +207,7 @@ impl Book {
 }
 
 /// The moment of the last of the entries, or the start where there is none, in ms.
-fn latest(start: u64, entries: &[Entry]) -> u64
+pub(crate) fn latest(start: u64, entries: &[Entry]) -> u64
     ensures { result ≡ latest start entries.now }
 {
     match entries.last() {

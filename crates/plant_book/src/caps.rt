@@ -6,7 +6,7 @@ ghost use Rattle.plant_book.specs.Answer as answers;
 ghost use Rattle.plant_book.specs.Ceiling as ceilings;
 ghost use Rattle.plant_book.specs.Answered.{IsBook};
 
-use crate::book::{Book, Entry};
+use crate::book::{Book, Entry, latest};
 use crate::call::{Call, Reply};
 use crate::reserved::{total_among, total_at};
 
@@ -43,6 +43,16 @@ fn through_set(entries: &[Entry]) -> &[Entry]
     &entries[..through]
 }
 
+/// The cap that the entry, if any, set, in mW, or else this number.
+fn cap_after(last: Option<Entry>, otherwise: u64) -> u64
+    ensures { result ≡ rule.cap_after otherwise last }
+{
+    match last {
+        Some(set) => cap_by(&set.call, otherwise),
+        None => otherwise,
+    }
+}
+
 /// The cap that a call wants, in mW, or else this number.
 fn cap_by(call: &Call, otherwise: u64) -> u64
     ensures { result ≡ rule.cap_by otherwise call.now }
@@ -56,12 +66,11 @@ fn cap_by(call: &Call, otherwise: u64) -> u64
 /// The cap in force, in mW.
 #[tactic(auto, unfolding(crate::specs::Caps::cap_of))]
 pub fn cap_plain(book: &Book) -> u64
-    ensures { result ≡ rule.cap_of book.now }
+    requires { IsBook book.now }
+    ensures cap { result ≡ rule.cap_of book.now }
+    ensures high { result ≤ book.now.site.cap }
 {
-    match last_set(book.entries()) {
-        Some(set) => cap_by(&set.call, book.site_cap()),
-        None => book.site_cap(),
-    }
+    cap_after(last_set(book.entries()), book.site_cap())
 }
 
 /// What was reserved in all right after the cap in force was set, in mW.
@@ -70,11 +79,7 @@ fn total_when_set(book: &Book) -> u64
     ensures { result ≡ ceilings.total_when_set book.now }
 {
     let entries = through_set(book.entries());
-    let at = match entries.last() {
-        Some(set) => set.call.at(),
-        None => book.start,
-    };
-    total_among(book, entries, at)
+    total_among(book, entries, latest(book.start(), entries))
 }
 
 /// What all limits together stay under at the last moment of the book, in mW.
