@@ -4,3 +4,4 @@ pub mod Spelled
 pub mod Steps
 pub mod Ranges
 pub mod Taken
+pub mod Written

@@ -97,6 +97,10 @@ capped_exact (Says (lines.One (calls.Tick a))) range =
 capped_exact (Says (lines.One (calls.Stop a))) range =
     let ea : min a number_most ≡ a = omega (arith, range) in
     rw (ea) refl
+capped_exact (Says (lines.One (calls.Cap a b))) range =
+    let ea : min a number_most ≡ a = omega (arith, range) in
+    let eb : min b number_most ≡ b = omega (arith, range) in
+    rw (ea, eb) refl
 capped_exact (Says (lines.Restart a)) range = let e : min a number_most ≡ a = omega (arith, range) in rw e refl
 capped_exact (Begin a) range = let e : min a number_most ≡ a = omega (arith, range) in rw e refl
 capped_exact (Says lines.Roll) range = refl
@@ -154,6 +158,10 @@ exact_capped (Says (lines.One (calls.Tick a))) range =
 exact_capped (Says (lines.One (calls.Stop a))) range =
     let ea : min a number_most ≡ a = omega (arith, range) in
     rw (ea) refl
+exact_capped (Says (lines.One (calls.Cap a b))) range =
+    let ea : min a number_most ≡ a = omega (arith, range) in
+    let eb : min b number_most ≡ b = omega (arith, range) in
+    rw (ea, eb) refl
 exact_capped (Says (lines.Restart a)) range = let e : min a number_most ≡ a = omega (arith, range) in rw e refl
 exact_capped (Begin a) range = let e : min a number_most ≡ a = omega (arith, range) in rw e refl
 exact_capped (Says lines.Roll) range = refl
@@ -183,6 +191,7 @@ place_capped before (Says (lines.One (calls.Back a b c d))) place = place
 place_capped before (Says (lines.One (calls.Want a b c))) place = place
 place_capped before (Says (lines.One (calls.Tick a))) place = place
 place_capped before (Says (lines.One (calls.Stop a))) place = place
+place_capped before (Says (lines.One (calls.Cap a b))) place = place
 place_capped before (Says (lines.Restart at)) place = place
 place_capped before (Says lines.Roll) place = place
 place_capped before (Begin at) place = place
@@ -198,6 +207,7 @@ place_exact before (Says (lines.One (calls.Back a b c d))) place = place
 place_exact before (Says (lines.One (calls.Want a b c))) place = place
 place_exact before (Says (lines.One (calls.Tick a))) place = place
 place_exact before (Says (lines.One (calls.Stop a))) place = place
+place_exact before (Says (lines.One (calls.Cap a b))) place = place
 place_exact before (Says (lines.Restart at)) place = place
 place_exact before (Says lines.Roll) place = place
 place_exact before (Begin at) place = place

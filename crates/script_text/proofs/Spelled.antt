@@ -282,7 +282,10 @@ fields_taken most most_size bytes x big le e0 =
                       elim (behind_is (rest_after (codes "roll") bytes) (none_at fields.Roll) _ x e9) [
                         | inl at ↦ none_taken most most_size fields.Roll (Says lines.Roll) (codes "roll") bytes at.0 x refl refl refl (after_is (codes "roll") bytes at.0 at.1) at.2
                         | inr e10 ↦ 
-                        elim (behind_is (rest_after (codes "inverter") bytes) (inverter_at most most_size) _ x e10) [
+                        elim (behind_is (rest_after (codes "cap") bytes) (two_at most fields.Cap) _ x e10) [
+                          | inl at ↦ two_taken most most_size fields.Cap (λ a b. Says (lines.One (calls.Cap a b))) (codes "cap") bytes at.0 x big (λ _ _. refl) (λ _ _. refl) refl (after_is (codes "cap") bytes at.0 at.1) at.2
+                          | inr ecap ↦ 
+                        elim (behind_is (rest_after (codes "inverter") bytes) (inverter_at most most_size) _ x ecap) [
                           | inl at ↦ inverter_taken most most_size bytes at.0 x big le (after_is (codes "inverter") bytes at.0 at.1) at.2
                           | inr e11 ↦ 
                           elim (behind_is (rest_after (codes "site") bytes) (site_at most) _ x e11) [
@@ -293,6 +296,7 @@ fields_taken most most_size bytes x big le e0 =
                               | inr e13 ↦ absurd cc
                             ]
                           ]
+                        ]
                         ]
                       ]
                     ]
@@ -461,6 +465,9 @@ words_found most most_size (Says (lines.One (calls.Link a b))) words tail rest b
 words_found most most_size (Says (lines.One (calls.Stop a))) words tail rest big le are none ends =
     let f = first_text (codes "stop") (Number a ∷ []) words are in
     ap (fields_at most most_size) (spaced_is (codes "stop") words f.more tail f.words_are) ∙ one_found most fields.Stop a f.more tail rest big f.are none ends
+words_found most most_size (Says (lines.One (calls.Cap a b))) words tail rest big le are none ends =
+    let f = first_text (codes "cap") (Number a ∷ Number b ∷ []) words are in
+    ap (fields_at most most_size) (spaced_is (codes "cap") words f.more tail f.words_are) ∙ two_found most fields.Cap a b f.more tail rest big f.are none ends
 words_found most most_size (Says (lines.Restart a)) words tail rest big le are none ends =
     let f = first_text (codes "restart") (Number a ∷ []) words are in
     ap (fields_at most most_size) (spaced_is (codes "restart") words f.more tail f.words_are) ∙ one_found most fields.Restart a f.more tail rest big f.are none ends
@@ -557,6 +564,10 @@ exact most (Says (lines.One (calls.Link a b))) le =
 exact most (Says (lines.One (calls.Stop a))) le =
     let ea : min a most ≡ a = omega (arith, le) in
     rw (ea) refl
+exact most (Says (lines.One (calls.Cap a b))) le =
+    let ea : min a most ≡ a = omega (arith, le) in
+    let eb : min b most ≡ b = omega (arith, le) in
+    rw (ea, eb) refl
 exact most (Says (lines.Restart a)) le =
     let ea : min a most ≡ a = omega (arith, le) in
     rw (ea) refl

@@ -32,6 +32,7 @@ call_words (calls.Back at inverter link number) =
 call_words (calls.Want at inverter mw) = Text (codes "want") ∷ Number at ∷ Number inverter ∷ Number mw ∷ []
 call_words (calls.Tick at) = Text (codes "tick") ∷ Number at ∷ []
 call_words (calls.Stop at) = Text (codes "stop") ∷ Number at ∷ []
+call_words (calls.Cap at mw) = Text (codes "cap") ∷ Number at ∷ Number mw ∷ []
 
 abbrev pub reply_words : Reply → List Word
 reply_words (replies.Linked link) = Text (codes "linked") ∷ Number link ∷ []
@@ -50,6 +51,8 @@ reply_words replies.Crowded = Text (codes "crowded") ∷ []
 reply_words replies.NoRead = Text (codes "noread") ∷ []
 reply_words (replies.Strange raw) = Text (codes "strange") ∷ Number raw ∷ []
 reply_words replies.NoWrite = Text (codes "nowrite") ∷ []
+reply_words (replies.CapSet cap ceiling) = Text (codes "capset") ∷ Number cap ∷ Number ceiling ∷ []
+reply_words (replies.CapOut least most) = Text (codes "capout") ∷ Number least ∷ Number most ∷ []
 
 abbrev pub line_words : Line → List Word
 line_words (lines.One call) = call_words call

@@ -4,3 +4,4 @@ pub mod Script
 pub mod Text
 pub mod Reading
 pub mod Progress
+pub mod Lines

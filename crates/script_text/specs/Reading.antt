@@ -192,9 +192,10 @@ fields_at most most_size bytes =
     (reading (rest_after (codes "stop") bytes) (one_at most fields.Stop)
     (reading (rest_after (codes "restart") bytes) (one_at most fields.Restart)
     (reading (rest_after (codes "roll") bytes) (none_at fields.Roll)
+    (reading (rest_after (codes "cap") bytes) (two_at most fields.Cap)
     (reading (rest_after (codes "inverter") bytes) (inverter_at most most_size)
     (reading (rest_after (codes "site") bytes) (site_at most)
-    (reading (rest_after (codes "begin") bytes) (one_at most fields.Begin) None))))))))))))
+    (reading (rest_after (codes "begin") bytes) (one_at most fields.Begin) None)))))))))))))
 
 -- ---- what numbers say
 
@@ -212,6 +213,7 @@ statement_of (fields.Back at inverter link number) = Says (lines.One (calls.Back
 statement_of (fields.Want at inverter mw) = Says (lines.One (calls.Want at inverter mw))
 statement_of (fields.Tick at) = Says (lines.One (calls.Tick at))
 statement_of (fields.Stop at) = Says (lines.One (calls.Stop at))
+statement_of (fields.Cap at mw) = Says (lines.One (calls.Cap at mw))
 statement_of (fields.Restart at) = Says (lines.Restart at)
 statement_of fields.Roll = Says lines.Roll
 
@@ -240,5 +242,6 @@ fields_of most most_size (Says (lines.One (calls.Want at inverter mw))) =
     fields.Want (min at most) (min inverter most) (min mw most)
 fields_of most most_size (Says (lines.One (calls.Tick at))) = fields.Tick (min at most)
 fields_of most most_size (Says (lines.One (calls.Stop at))) = fields.Stop (min at most)
+fields_of most most_size (Says (lines.One (calls.Cap at mw))) = fields.Cap (min at most) (min mw most)
 fields_of most most_size (Says (lines.Restart at)) = fields.Restart (min at most)
 fields_of most most_size (Says lines.Roll) = fields.Roll

@@ -77,6 +77,10 @@ pub enum Fields {
     Stop {
         at: u64,
     },
+    Cap {
+        at: u64,
+        mw: u64,
+    },
     Restart {
         at: u64,
     },
@@ -224,6 +228,15 @@ fn begin(bytes: &[u8]) -> Option<(Fields, &[u8])>
     Some((Fields::Begin { at }, end(rest)?))
 }
 
+#[tactic(auto, unfolding(crate::specs::Reading::two_at))]
+fn cap(bytes: &[u8]) -> Option<(Fields, &[u8])>
+    ensures { Gives result (two_at number_most fields.Cap bytes.now) }
+{
+    let (at, rest) = next(bytes)?;
+    let (mw, rest) = next(rest)?;
+    Some((Fields::Cap { at, mw }, end(rest)?))
+}
+
 /// The numbers of the row at the front, and the bytes behind it.
 #[tactic(auto, unfolding(crate::specs::Reading::fields_at))]
 pub fn read_fields(bytes: &[u8]) -> Option<(Fields, &[u8])>
@@ -258,6 +271,9 @@ pub fn read_fields(bytes: &[u8]) -> Option<(Fields, &[u8])>
     }
     if let Some(rest) = after(bytes, b"roll") {
         return roll(rest);
+    }
+    if let Some(rest) = after(bytes, b"cap") {
+        return cap(rest);
     }
     if let Some(rest) = after(bytes, b"inverter") {
         return inverter(rest);

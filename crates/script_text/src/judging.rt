@@ -109,6 +109,16 @@ fn stop(at: u64) -> Option<Line>
     Some(Line::One(Call::Stop { at }))
 }
 
+fn cap(at: u64, mw: u64) -> Option<Line>
+    ensures { Judges result (lines.One (calls.Cap at mw)) }
+{
+    let at = moment(at)?;
+    if mw > CAP_MAX {
+        return None;
+    }
+    Some(Line::One(Call::Cap { at, mw }))
+}
+
 fn restart(at: u64) -> Option<Line>
     ensures { Judges result (lines.Restart at) }
 {
@@ -130,6 +140,7 @@ fn line_of(numbers: Fields) -> Result<Line, LineKind>
         Fields::Want { at, inverter, mw } => want(at, inverter, mw),
         Fields::Tick { at } => tick(at),
         Fields::Stop { at } => stop(at),
+        Fields::Cap { at, mw } => cap(at, mw),
         Fields::Restart { at } => restart(at),
         Fields::Roll => Some(Line::Roll),
         Fields::Site { .. } | Fields::Inverter { .. } | Fields::Begin { .. } => {

@@ -10,8 +10,11 @@ mod judging;
 mod laws;
 mod line;
 mod number;
+mod pen;
 mod rows;
 mod script;
+mod text;
 
 pub use line::{Line, LineKind};
 pub use script::{SCRIPT_BYTES_MAX, Script, ScriptFault, script_of};
+pub use text::{entry_text, restart_text, roll_text};
