@@ -5,3 +5,4 @@ pub mod Steps
 pub mod Ranges
 pub mod Taken
 pub mod Written
+pub mod Once

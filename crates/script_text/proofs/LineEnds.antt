@@ -38,7 +38,7 @@ split bytes = slice_split (λ byte. eqb byte 10) bytes
 split_first : (bytes : List ℕ) → split bytes ≡ before bytes ∷ cond (has_feed bytes) (split (behind_row bytes)) []
 split_first [] = refl
 split_first (byte ∷ rest) =
-    elim (cases_Bool (eqb byte 10)) [ | inl is ↦ rw is refl | inr not ↦ rw (not, split_first rest) refl ]
+    elim (cases_Bool (eqb byte 10)) [ inl is ↦ rw is refl | inr not ↦ rw (not, split_first rest) refl ]
 
 two_parts : (part next : List ℕ) (parts more : List (List ℕ)) → parts ≡ next ∷ more → lines_of_parts (part ∷ parts) ≡ strip_carriage_return part ∷ lines_of_parts parts
 two_parts part next parts more e = rw e refl
@@ -47,32 +47,32 @@ strip_more : (a b : ℕ) (rest : List ℕ) → strip_carriage_return (a ∷ b �
 strip_more a b rest =
     let two : suc (suc (length rest)) - 1 ≡ suc (length rest) = omega arith in
     let one : suc (length rest) - 1 ≡ length rest = omega arith in
-    elim (cases_Bool (eqb (get_or (b ∷ rest) (length rest) 0) 13)) [ | inl is ↦ rw (two, one, is) refl | inr not ↦ rw (two, one, not) refl ]
+    elim (cases_Bool (eqb (get_or (b ∷ rest) (length rest) 0) 13)) [ inl is ↦ rw (two, one, is) refl | inr not ↦ rw (two, one, not) refl ]
 
 strip_is : (bytes : List ℕ) → has_feed bytes ≡ true → strip_carriage_return (before bytes) ≡ row_at bytes
 strip_is [] has = absurd cc
 strip_is (byte ∷ []) has =
-    elim (cases_Bool (eqb byte 10)) [ | inl is ↦ rw is refl | inr not ↦ let no : false ≡ true = rw not at has in absurd cc ]
+    elim (cases_Bool (eqb byte 10)) [ inl is ↦ rw is refl | inr not ↦ let no : false ≡ true = rw not at has in absurd cc ]
 strip_is (byte ∷ next ∷ rest) has =
     elim (cases_Bool (eqb byte 10)) [
       | inl is ↦ rw is refl
       | inr not ↦
           elim (cases_Bool (eqb next 10)) [
-            | inl end ↦ elim (cases_Bool (eqb byte 13)) [ | inl cr ↦ rw (not, end, cr) refl | inr other ↦ rw (not, end, other) refl ]
+            | inl end ↦ elim (cases_Bool (eqb byte 13)) [ inl cr ↦ rw (not, end, cr) refl | inr other ↦ rw (not, end, other) refl ]
             | inr inside ↦
                 let has' : has_feed (next ∷ rest) ≡ true = rw not at has in
                 let more : strip_carriage_return (before (next ∷ rest)) ≡ row_at (next ∷ rest) = strip_is (next ∷ rest) has' in
                 let first : before (byte ∷ next ∷ rest) ≡ byte ∷ next ∷ before rest = rw (not, inside) refl in
                 let second : before (next ∷ rest) ≡ next ∷ before rest = rw inside refl in
                 let row : row_at (byte ∷ next ∷ rest) ≡ byte ∷ row_at (next ∷ rest) =
-                elim (cases_Bool (eqb byte 13)) [ | inl cr ↦ rw (not, cr, inside) refl | inr other ↦ rw (not, other) refl ] in
+                elim (cases_Bool (eqb byte 13)) [ inl cr ↦ rw (not, cr, inside) refl | inr other ↦ rw (not, other) refl ] in
                 ap strip_carriage_return first ∙ strip_more byte next (before rest) ∙ ap (λ (x : List ℕ). byte ∷ strip_carriage_return x) (sym second) ∙ ap (λ (x : List ℕ). byte ∷ x) more ∙ sym row
           ]
     ]
 
 no_feed_first : (rest : List ℕ) → has_feed rest ≡ false → begins_with 10 rest ≡ false
 no_feed_first [] has = refl
-no_feed_first (byte ∷ rest) has = elim (cases_Bool (eqb byte 10)) [ | inl is ↦ let no : true ≡ false = rw is at has in absurd cc | inr not ↦ not ]
+no_feed_first (byte ∷ rest) has = elim (cases_Bool (eqb byte 10)) [ inl is ↦ let no : true ≡ false = rw is at has in absurd cc | inr not ↦ not ]
 
 whole : (bytes : List ℕ) → has_feed bytes ≡ false → (before bytes ≡ bytes) × (row_at bytes ≡ bytes) × (behind_row bytes ≡ [])
 whole [] has = (refl, refl, refl)
@@ -83,7 +83,7 @@ whole (byte ∷ rest) has =
           let has' : has_feed rest ≡ false = rw not at has in
           let more = whole rest has' in
           let none : begins_with 10 rest ≡ false = no_feed_first rest has' in
-          let row : row_at (byte ∷ rest) ≡ byte ∷ row_at rest = elim (cases_Bool (eqb byte 13)) [ | inl cr ↦ rw (not, cr, none) refl | inr other ↦ rw (not, other) refl ] in
+          let row : row_at (byte ∷ rest) ≡ byte ∷ row_at rest = elim (cases_Bool (eqb byte 13)) [ inl cr ↦ rw (not, cr, none) refl | inr other ↦ rw (not, other) refl ] in
           (rw not (ap (λ (x : List ℕ). byte ∷ x) more.0), row ∙ ap (λ (x : List ℕ). byte ∷ x) more.1, rw not more.2)
     ]
 
@@ -254,7 +254,7 @@ row_lacks (byte ∷ rest) =
 
 lacks_parts : (byte : ℕ) (more : List ℕ) → lacks_feed (byte ∷ more) ≡ true → (eqb byte 10 ≡ false) × (lacks_feed more ≡ true)
 lacks_parts byte more lacks =
-    elim (chosen (eqb byte 10) false (lacks_feed more) true lacks) [ | inl bad ↦ absurd cc | inr good ↦ good ]
+    elim (chosen (eqb byte 10) false (lacks_feed more) true lacks) [ inl bad ↦ absurd cc | inr good ↦ good ]
 
 pub lacks_back : (a b : List ℕ) → lacks_feed (a ++ b) ≡ true → lacks_feed b ≡ true
 lacks_back [] b lacks = lacks

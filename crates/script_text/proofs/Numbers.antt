@@ -56,7 +56,7 @@ back (byte ∷ more) = cond (ltb byte 48 || ltb 57 byte) (byte ∷ more) (back m
 front_back : (bytes : List ℕ) → bytes ≡ front bytes ++ back bytes
 front_back [] = refl
 front_back (byte ∷ more) =
-    elim (cases_Bool (ltb byte 48 || ltb 57 byte)) [ | inl end ↦ rw end refl | inr digit ↦ rw digit (ap (λ (x : List ℕ). byte ∷ x) (front_back more)) ]
+    elim (cases_Bool (ltb byte 48 || ltb 57 byte)) [ inl end ↦ rw end refl | inr digit ↦ rw digit (ap (λ (x : List ℕ). byte ∷ x) (front_back more)) ]
 
 front_digits : (bytes : List ℕ) → IsDigits (front bytes)
 front_digits [] = tt

@@ -254,59 +254,59 @@ unfolding fields_at
 fields_taken most most_size bytes x big le e0 =
     elim (behind_is (rest_after (codes "tick") bytes) (one_at most fields.Tick) _ x e0) [
       | inl at ↦ one_taken most most_size fields.Tick (λ a. Says (lines.One (calls.Tick a))) (codes "tick") bytes at.0 x big (λ _. refl) (λ _. refl) refl (after_is (codes "tick") bytes at.0 at.1) at.2
-      | inr e1 ↦ 
-      elim (behind_is (rest_after (codes "ask") bytes) (three_at most fields.Ask) _ x e1) [
-        | inl at ↦ three_taken most most_size fields.Ask (λ a b c. Says (lines.One (calls.Ask a b c))) (codes "ask") bytes at.0 x big (λ _ _ _. refl) (λ _ _ _. refl) refl (after_is (codes "ask") bytes at.0 at.1) at.2
-        | inr e2 ↦ 
-        elim (behind_is (rest_after (codes "read") bytes) (two_at most fields.Read) _ x e2) [
-          | inl at ↦ two_taken most most_size fields.Read (λ a b. Says (lines.One (calls.Read a b))) (codes "read") bytes at.0 x big (λ _ _. refl) (λ _ _. refl) refl (after_is (codes "read") bytes at.0 at.1) at.2
-          | inr e3 ↦ 
-          elim (behind_is (rest_after (codes "saw") bytes) (four_at most fields.Saw) _ x e3) [
-            | inl at ↦ four_taken most most_size fields.Saw (λ a b c d. Says (lines.One (calls.Saw a b c d))) (codes "saw") bytes at.0 x big (λ _ _ _ _. refl) (λ _ _ _ _. refl) refl (after_is (codes "saw") bytes at.0 at.1) at.2
-            | inr e4 ↦ 
-            elim (behind_is (rest_after (codes "want") bytes) (three_at most fields.Want) _ x e4) [
-              | inl at ↦ three_taken most most_size fields.Want (λ a b c. Says (lines.One (calls.Want a b c))) (codes "want") bytes at.0 x big (λ _ _ _. refl) (λ _ _ _. refl) refl (after_is (codes "want") bytes at.0 at.1) at.2
-              | inr e5 ↦ 
-              elim (behind_is (rest_after (codes "back") bytes) (four_at most fields.Back) _ x e5) [
-                | inl at ↦ four_taken most most_size fields.Back (λ a b c d. Says (lines.One (calls.Back a b c d))) (codes "back") bytes at.0 x big (λ _ _ _ _. refl) (λ _ _ _ _. refl) refl (after_is (codes "back") bytes at.0 at.1) at.2
-                | inr e6 ↦ 
-                elim (behind_is (rest_after (codes "link") bytes) (two_at most fields.Link) _ x e6) [
-                  | inl at ↦ two_taken most most_size fields.Link (λ a b. Says (lines.One (calls.Link a b))) (codes "link") bytes at.0 x big (λ _ _. refl) (λ _ _. refl) refl (after_is (codes "link") bytes at.0 at.1) at.2
-                  | inr e7 ↦ 
-                  elim (behind_is (rest_after (codes "stop") bytes) (one_at most fields.Stop) _ x e7) [
-                    | inl at ↦ one_taken most most_size fields.Stop (λ a. Says (lines.One (calls.Stop a))) (codes "stop") bytes at.0 x big (λ _. refl) (λ _. refl) refl (after_is (codes "stop") bytes at.0 at.1) at.2
-                    | inr e8 ↦ 
-                    elim (behind_is (rest_after (codes "restart") bytes) (one_at most fields.Restart) _ x e8) [
-                      | inl at ↦ one_taken most most_size fields.Restart (λ a. Says (lines.Restart a)) (codes "restart") bytes at.0 x big (λ _. refl) (λ _. refl) refl (after_is (codes "restart") bytes at.0 at.1) at.2
-                      | inr e9 ↦ 
-                      elim (behind_is (rest_after (codes "roll") bytes) (none_at fields.Roll) _ x e9) [
-                        | inl at ↦ none_taken most most_size fields.Roll (Says lines.Roll) (codes "roll") bytes at.0 x refl refl refl (after_is (codes "roll") bytes at.0 at.1) at.2
-                        | inr e10 ↦ 
-                        elim (behind_is (rest_after (codes "cap") bytes) (two_at most fields.Cap) _ x e10) [
-                          | inl at ↦ two_taken most most_size fields.Cap (λ a b. Says (lines.One (calls.Cap a b))) (codes "cap") bytes at.0 x big (λ _ _. refl) (λ _ _. refl) refl (after_is (codes "cap") bytes at.0 at.1) at.2
-                          | inr ecap ↦ 
-                        elim (behind_is (rest_after (codes "inverter") bytes) (inverter_at most most_size) _ x ecap) [
-                          | inl at ↦ inverter_taken most most_size bytes at.0 x big le (after_is (codes "inverter") bytes at.0 at.1) at.2
-                          | inr e11 ↦ 
-                          elim (behind_is (rest_after (codes "site") bytes) (site_at most) _ x e11) [
-                            | inl at ↦ site_taken most most_size bytes at.0 x big (after_is (codes "site") bytes at.0 at.1) at.2
-                            | inr e12 ↦ 
-                            elim (behind_is (rest_after (codes "begin") bytes) (one_at most fields.Begin) None x e12) [
-                              | inl at ↦ one_taken most most_size fields.Begin (λ a. Begin a) (codes "begin") bytes at.0 x big (λ _. refl) (λ _. refl) refl (after_is (codes "begin") bytes at.0 at.1) at.2
-                              | inr e13 ↦ absurd cc
+      | inr e1 ↦
+          elim (behind_is (rest_after (codes "ask") bytes) (three_at most fields.Ask) _ x e1) [
+            | inl at ↦ three_taken most most_size fields.Ask (λ a b c. Says (lines.One (calls.Ask a b c))) (codes "ask") bytes at.0 x big (λ _ _ _. refl) (λ _ _ _. refl) refl (after_is (codes "ask") bytes at.0 at.1) at.2
+            | inr e2 ↦
+                elim (behind_is (rest_after (codes "read") bytes) (two_at most fields.Read) _ x e2) [
+                  | inl at ↦ two_taken most most_size fields.Read (λ a b. Says (lines.One (calls.Read a b))) (codes "read") bytes at.0 x big (λ _ _. refl) (λ _ _. refl) refl (after_is (codes "read") bytes at.0 at.1) at.2
+                  | inr e3 ↦
+                      elim (behind_is (rest_after (codes "saw") bytes) (four_at most fields.Saw) _ x e3) [
+                        | inl at ↦ four_taken most most_size fields.Saw (λ a b c d. Says (lines.One (calls.Saw a b c d))) (codes "saw") bytes at.0 x big (λ _ _ _ _. refl) (λ _ _ _ _. refl) refl (after_is (codes "saw") bytes at.0 at.1) at.2
+                        | inr e4 ↦
+                            elim (behind_is (rest_after (codes "want") bytes) (three_at most fields.Want) _ x e4) [
+                              | inl at ↦ three_taken most most_size fields.Want (λ a b c. Says (lines.One (calls.Want a b c))) (codes "want") bytes at.0 x big (λ _ _ _. refl) (λ _ _ _. refl) refl (after_is (codes "want") bytes at.0 at.1) at.2
+                              | inr e5 ↦
+                                  elim (behind_is (rest_after (codes "back") bytes) (four_at most fields.Back) _ x e5) [
+                                    | inl at ↦ four_taken most most_size fields.Back (λ a b c d. Says (lines.One (calls.Back a b c d))) (codes "back") bytes at.0 x big (λ _ _ _ _. refl) (λ _ _ _ _. refl) refl (after_is (codes "back") bytes at.0 at.1) at.2
+                                    | inr e6 ↦
+                                        elim (behind_is (rest_after (codes "link") bytes) (two_at most fields.Link) _ x e6) [
+                                          | inl at ↦ two_taken most most_size fields.Link (λ a b. Says (lines.One (calls.Link a b))) (codes "link") bytes at.0 x big (λ _ _. refl) (λ _ _. refl) refl (after_is (codes "link") bytes at.0 at.1) at.2
+                                          | inr e7 ↦
+                                              elim (behind_is (rest_after (codes "stop") bytes) (one_at most fields.Stop) _ x e7) [
+                                                | inl at ↦ one_taken most most_size fields.Stop (λ a. Says (lines.One (calls.Stop a))) (codes "stop") bytes at.0 x big (λ _. refl) (λ _. refl) refl (after_is (codes "stop") bytes at.0 at.1) at.2
+                                                | inr e8 ↦
+                                                    elim (behind_is (rest_after (codes "restart") bytes) (one_at most fields.Restart) _ x e8) [
+                                                      | inl at ↦ one_taken most most_size fields.Restart (λ a. Says (lines.Restart a)) (codes "restart") bytes at.0 x big (λ _. refl) (λ _. refl) refl (after_is (codes "restart") bytes at.0 at.1) at.2
+                                                      | inr e9 ↦
+                                                          elim (behind_is (rest_after (codes "roll") bytes) (none_at fields.Roll) _ x e9) [
+                                                            | inl at ↦ none_taken most most_size fields.Roll (Says lines.Roll) (codes "roll") bytes at.0 x refl refl refl (after_is (codes "roll") bytes at.0 at.1) at.2
+                                                            | inr e10 ↦
+                                                                elim (behind_is (rest_after (codes "cap") bytes) (two_at most fields.Cap) _ x e10) [
+                                                                  | inl at ↦ two_taken most most_size fields.Cap (λ a b. Says (lines.One (calls.Cap a b))) (codes "cap") bytes at.0 x big (λ _ _. refl) (λ _ _. refl) refl (after_is (codes "cap") bytes at.0 at.1) at.2
+                                                                  | inr ecap ↦
+                                                                      elim (behind_is (rest_after (codes "inverter") bytes) (inverter_at most most_size) _ x ecap) [
+                                                                        | inl at ↦ inverter_taken most most_size bytes at.0 x big le (after_is (codes "inverter") bytes at.0 at.1) at.2
+                                                                        | inr e11 ↦
+                                                                            elim (behind_is (rest_after (codes "site") bytes) (site_at most) _ x e11) [
+                                                                              | inl at ↦ site_taken most most_size bytes at.0 x big (after_is (codes "site") bytes at.0 at.1) at.2
+                                                                              | inr e12 ↦
+                                                                                  elim (behind_is (rest_after (codes "begin") bytes) (one_at most fields.Begin) None x e12) [
+                                                                                    | inl at ↦ one_taken most most_size fields.Begin (λ a. Begin a) (codes "begin") bytes at.0 x big (λ _. refl) (λ _. refl) refl (after_is (codes "begin") bytes at.0 at.1) at.2
+                                                                                    | inr e13 ↦ absurd cc
+                                                                                  ]
+                                                                            ]
+                                                                      ]
+                                                                ]
+                                                          ]
+                                                    ]
+                                              ]
+                                        ]
+                                  ]
                             ]
-                          ]
-                        ]
-                        ]
                       ]
-                    ]
-                  ]
                 ]
-              ]
-            ]
           ]
-        ]
-      ]
     ]
 
 -- ---- what is spelled is read
@@ -499,7 +499,7 @@ no_digit_end [] = refl
 no_digit_end (byte ∷ rest) =
     elim (cases_Bool (eqb byte 10)) [
       | inl is ↦ rw is refl
-      | inr not ↦ elim (cases_Bool (eqb byte 13 && begins_with 10 rest)) [ | inl both ↦ rw (not, both) refl | inr other ↦ rw (not, other) (no_digit_end rest) ]
+      | inr not ↦ elim (cases_Bool (eqb byte 13 && begins_with 10 rest)) [ inl both ↦ rw (not, both) refl | inr other ↦ rw (not, other) (no_digit_end rest) ]
     ]
 
 -- what a row at the front spells is read there

@@ -42,9 +42,9 @@ comment_is byte rest = (
 )
 
 behind_at_most : (byte : ℕ) (rest : List ℕ) → length (behind_row (byte ∷ rest)) ≤ length rest
-behind_at_most byte [] = elim (cases_Bool (eqb byte 10)) [ | inl feed ↦ rw feed (omega arith) | inr other ↦ rw other (omega arith) ]
+behind_at_most byte [] = elim (cases_Bool (eqb byte 10)) [ inl feed ↦ rw feed (omega arith) | inr other ↦ rw other (omega arith) ]
 behind_at_most byte (next ∷ rest) =
-    elim (cases_Bool (eqb byte 10)) [ | inl feed ↦ rw feed (omega arith) | inr other ↦ rw other (omega (arith, behind_at_most next rest)) ]
+    elim (cases_Bool (eqb byte 10)) [ inl feed ↦ rw feed (omega arith) | inr other ↦ rw other (omega (arith, behind_at_most next rest)) ]
 
 pub behind_short : (bytes : List ℕ) → 1 ≤ length bytes → length (behind_row bytes) < length bytes
 behind_short [] some = absurd (omega (arith, some))

@@ -2,17 +2,26 @@
 use Rattle.std.specs.Prelude.{ℕ, List, [], ◌∷◌, ◌++◌, codes, map}
 use Rattle.std.specs.List.{flat_map}
 use Rattle.plant_book.specs.declared.book.Entry.{Entry}
+use Rattle.plant_book.specs.declared.site.Unit as unit
 use Rattle.plant_book.specs.Site.{SiteRecord}
 use Rattle.plant_book.specs.Book.{BookRecord}
 use Rattle.script_text.specs.declared.line.Line.{Line}
 use Rattle.script_text.specs.declared.line.Line.TheVariants as lines
 use Rattle.script_text.specs.Words.{Word, Text, line_text}
-use Rattle.script_text.specs.Grammar.{call_words, reply_words, line_words, statement_words}
-use Rattle.script_text.specs.Script.{head_statements}
+use Rattle.script_text.specs.Grammar.{Statement, Begin, call_words, reply_words, line_words, statement_words}
+use Rattle.script_text.specs.Script.{site_statement, inverter_statement}
+
+abbrev pub statement_text : Statement → List ℕ
+statement_text statement = line_text (statement_words statement)
+
+abbrev pub inverters_text : List unit.Unit → List ℕ
+inverters_text units = flat_map (λ unit. statement_text (inverter_statement unit)) units
 
 -- the head of a book: its site, its inverters and its begin
 abbrev pub head_text : SiteRecord → ℕ → List ℕ
-head_text site start = flat_map (λ statement. line_text (statement_words statement)) (head_statements site start)
+head_text site start =
+    statement_text (site_statement site.cap site.rules site.policy site.room)
+    ++ inverters_text site.units ++ statement_text (Begin start)
 
 -- a line with an equals sign and its reply
 abbrev pub replied_text : List Word → List Word → List ℕ

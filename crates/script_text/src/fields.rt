@@ -171,7 +171,15 @@ fn saw(bytes: &[u8]) -> Option<(Fields, &[u8])>
     let (inverter, rest) = next(rest)?;
     let (number, rest) = next(rest)?;
     let (raw, rest) = next(rest)?;
-    Some((Fields::Saw { at, inverter, number, raw }, end(rest)?))
+    Some((
+        Fields::Saw {
+            at,
+            inverter,
+            number,
+            raw,
+        },
+        end(rest)?,
+    ))
 }
 
 #[tactic(auto, unfolding(crate::specs::Reading::three_at))]
@@ -192,7 +200,15 @@ fn back(bytes: &[u8]) -> Option<(Fields, &[u8])>
     let (inverter, rest) = next(rest)?;
     let (link, rest) = next(rest)?;
     let (number, rest) = next(rest)?;
-    Some((Fields::Back { at, inverter, link, number }, end(rest)?))
+    Some((
+        Fields::Back {
+            at,
+            inverter,
+            link,
+            number,
+        },
+        end(rest)?,
+    ))
 }
 
 #[tactic(auto, unfolding(crate::specs::Reading::two_at))]

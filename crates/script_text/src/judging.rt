@@ -71,7 +71,12 @@ fn saw(at: u64, inverter: u64, number: u64, raw: u64) -> Option<Line>
     let inverter = u8::try_from(inverter).ok()?;
     let number = u16::try_from(number).ok()?;
     let raw = u16::try_from(raw).ok()?;
-    Some(Line::One(Call::Saw { at, inverter, number, raw }))
+    Some(Line::One(Call::Saw {
+        at,
+        inverter,
+        number,
+        raw,
+    }))
 }
 
 fn back(at: u64, inverter: u64, link: u64, number: u64) -> Option<Line>
@@ -81,7 +86,12 @@ fn back(at: u64, inverter: u64, link: u64, number: u64) -> Option<Line>
     let inverter = u8::try_from(inverter).ok()?;
     let link = u32::try_from(link).ok()?;
     let number = u16::try_from(number).ok()?;
-    Some(Line::One(Call::Back { at, inverter, link, number }))
+    Some(Line::One(Call::Back {
+        at,
+        inverter,
+        link,
+        number,
+    }))
 }
 
 fn want(at: u64, inverter: u64, mw: u64) -> Option<Line>
@@ -135,8 +145,18 @@ fn line_of(numbers: Fields) -> Result<Line, LineKind>
         Fields::Link { at, inverter } => link(at, inverter),
         Fields::Ask { at, inverter, raw } => ask(at, inverter, raw),
         Fields::Read { at, inverter } => read(at, inverter),
-        Fields::Saw { at, inverter, number, raw } => saw(at, inverter, number, raw),
-        Fields::Back { at, inverter, link, number } => back(at, inverter, link, number),
+        Fields::Saw {
+            at,
+            inverter,
+            number,
+            raw,
+        } => saw(at, inverter, number, raw),
+        Fields::Back {
+            at,
+            inverter,
+            link,
+            number,
+        } => back(at, inverter, link, number),
         Fields::Want { at, inverter, mw } => want(at, inverter, mw),
         Fields::Tick { at } => tick(at),
         Fields::Stop { at } => stop(at),
@@ -151,12 +171,7 @@ fn line_of(numbers: Fields) -> Result<Line, LineKind>
 }
 
 /// The numbers of a site line, if they are in their ranges.
-fn site_line(
-    cap: u64,
-    rules: Option<Rules>,
-    policy: Policy,
-    room: u64,
-) -> Option<SiteLine>
+fn site_line(cap: u64, rules: Option<Rules>, policy: Policy, room: u64) -> Option<SiteLine>
     ensures { MatchOption result (IsSome rules → cap ≤ 10 ^ 14 → 1 ≤ room → room ≤ 1048576 → ⊥)
         (λ site. (site.cap ≡ cap) × (rules ≡ Some site.rules) × (site.policy ≡ policy) × (site.room ≡ room)) }
 {

@@ -116,10 +116,7 @@ fn read_head_line(rows: Rows<'_>) -> Result<(HeadLine, Rows<'_>), ScriptFault>
 }
 
 /// The inverters behind the site line, the begin, and the rows behind it.
-fn read_units(
-    alloc: Global,
-    mut rows: Rows<'_>,
-) -> Result<(Vec<Unit>, u64, Rows<'_>), ScriptFault>
+fn read_units(alloc: Global, mut rows: Rows<'_>) -> Result<(Vec<Unit>, u64, Rows<'_>), ScriptFault>
     requires { rows.number + length rows.rest.now < 2 ^ 32 }
     ensures { MatchResult result
         (λ found. UnitsTaken rows.entry found.0.items found.1 found.2)

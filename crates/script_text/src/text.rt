@@ -1,9 +1,10 @@
-ghost use Rattle.std.specs.Prelude.{◌≡◌, ◌≤◌, ◌+◌, ◌++◌, map, List, take, length, OnOk, OnErr};
+ghost use Rattle.std.specs.Prelude.{◌≡◌, ◌≤◌, ◌+◌, ◌++◌, ◌∷◌, map, OnOk, OnErr};
 ghost use Rattle.script_text.specs.Words.{spaced, written, line_text};
-ghost use Rattle.script_text.specs.Grammar.{Begin, call_words, reply_words, statement_words};
+ghost use Rattle.script_text.specs.Grammar.{Inverter, Begin, policy_word, call_words, reply_words, statement_words};
+ghost use Rattle.script_text.specs.Grammar as statements;
 ghost use Rattle.script_text.specs.Script.{site_statement, inverter_statement};
-ghost use Rattle.script_text.specs.Text.{head_text, entry_text, restart_text, roll_text, replied_text};
-ghost use Rattle.script_text.specs.Lines.{tail_of};
+ghost use Rattle.script_text.specs.Text.{head_text, inverters_text, entry_text, restart_text, roll_text, replied_text};
+ghost use Rattle.script_text.specs.Lines.{tail_of, IsLonger};
 
 use crate::pen::Pen;
 use limiter_num::NoMemory;
@@ -115,6 +116,100 @@ fn roll_line() -> Pen
     pen
 }
 
+/// The line of a site, by its numbers.
+fn numbered_site(
+    cap: u64,
+    send: u64,
+    delay: u64,
+    timer: u64,
+    per_mille: u64,
+    slack: u64,
+    policy: Policy,
+    room: u64,
+) -> Pen
+    ensures { tail_of result
+        ≡ line_text (statement_words (statements.Site cap send delay timer per_mille slack policy room)) }
+{
+    let mut pen = Pen::new();
+    pen.next(room);
+    put_policy(&mut pen, policy);
+    pen.next(slack);
+    pen.next(per_mille);
+    pen.next(timer);
+    pen.next(delay);
+    pen.next(send);
+    pen.next(cap);
+    pen.text(b"site");
+    pen
+}
+
+/// The line of a site.
+fn site_line(site: &Site) -> Pen
+    ensures { tail_of result ≡ line_text (statement_words
+        (site_statement site.now.cap site.now.rules site.now.policy site.now.room)) }
+{
+    let rules = &site.rules;
+    numbered_site(
+        site.cap,
+        u64::from(rules.send),
+        u64::from(rules.delay),
+        u64::from(rules.timer),
+        u64::from(rules.per_mille),
+        u64::from(rules.slack),
+        site.policy,
+        u64::from(site.room),
+    )
+}
+
+/// Writes a space and a policy before a line.
+fn put_policy(pen: &mut Pen, policy: Policy)
+    requires room { 5 ≤ pen.old.at }
+    requires within { pen.old.at ≤ 160 }
+    ensures line { tail_of pen.new ≡ 32 ∷ (policy_word policy ++ tail_of pen.old) }
+    ensures room { pen.old.at ≤ pen.new.at + 5 }
+    ensures within { pen.new.at ≤ 160 }
+{
+    match policy {
+        Policy::Open => pen.text(b" open"),
+        Policy::Fair => pen.text(b" fair"),
+    }
+}
+
+/// The line of an inverter, by its numbers.
+fn numbered_inverter(wmax: u64, wsf: i8, psf: i8, floor: u64) -> Pen
+    ensures { tail_of result ≡ line_text (statement_words (Inverter wmax wsf psf floor)) }
+{
+    let mut pen = Pen::new();
+    pen.next(floor);
+    pen.signed(psf);
+    pen.signed(wsf);
+    pen.next(wmax);
+    pen.text(b"inverter");
+    pen
+}
+
+/// The line of an inverter.
+fn inverter_line(unit: &Unit) -> Pen
+    ensures { tail_of result ≡ line_text (statement_words (inverter_statement unit.now)) }
+{
+    let rating = &unit.rating;
+    numbered_inverter(
+        u64::from(rating.wmax),
+        rating.wsf,
+        rating.psf,
+        u64::from(unit.floor),
+    )
+}
+
+/// The line of a begin at a moment in ms.
+fn begin_line(start: u64) -> Pen
+    ensures { tail_of result ≡ line_text (statement_words (Begin start)) }
+{
+    let mut pen = Pen::new();
+    pen.one(b"begin", start);
+    pen
+}
+
 /// Adds a line.
 #[inline]
 fn put(out: &mut Vec<u8>, line: &[u8]) -> Result<(), NoMemory>
@@ -122,6 +217,41 @@ fn put(out: &mut Vec<u8>, line: &[u8]) -> Result<(), NoMemory>
     ensures unchanged { OnErr result (out.new.items ≡ out.old.items) }
 {
     out.extend_from_slice(line).map_err(|_| NoMemory)
+}
+
+/// Adds the lines of inverters.
+fn put_inverters(out: &mut Vec<u8>, units: &[Unit]) -> Result<(), NoMemory>
+    ensures text { OnOk result (out.new.items ≡ out.old.items ++ inverters_text units.now) }
+    ensures front { OnErr result (IsLonger out.old.items out.new.items) }
+{
+    for unit in units {
+        put(out, inverter_line(unit).line())?;
+    }
+    Ok(())
+}
+
+/// Adds the lines of a head.
+fn put_head(out: &mut Vec<u8>, site: &Site, start: u64) -> Result<(), NoMemory>
+    ensures text { OnOk result (out.new.items ≡ out.old.items ++ head_text site.now start) }
+    ensures front { OnErr result (IsLonger out.old.items out.new.items) }
+{
+    put(out, site_line(site).line())?;
+    put_inverters(out, &site.units)?;
+    put(out, begin_line(start).line())
+}
+
+/// Adds the head of a book: its site, its inverters and the moment in ms at which it begins. Where memory runs out
+/// nothing is added.
+pub fn head_text(out: &mut Vec<u8>, site: &Site, start: u64) -> Result<(), NoMemory>
+    ensures text { OnOk result (out.new.items ≡ out.old.items ++ head_text site.now start) }
+    ensures unchanged { OnErr result (out.new.items ≡ out.old.items) }
+{
+    let length = out.len();
+    let added = put_head(out, site, start);
+    if added.is_err() {
+        out.truncate(length);
+    }
+    added
 }
 
 /// Adds the line of an entry, with its reply. Where memory runs out nothing is added.
