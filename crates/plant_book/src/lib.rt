@@ -6,6 +6,7 @@
 
 mod book;
 mod call;
+mod carry;
 mod laws;
 mod live;
 mod policy;
@@ -17,6 +18,7 @@ mod site;
 
 pub use book::{Book, ENTRY_BYTES_MAX, Entry};
 pub use call::{Call, LIVE_MAX, MOMENT_MAX, REQUESTS_MAX, Read, Reply, WISH_MAX, Write};
+pub use carry::{CALLS_MAX, CapMark, Carry, UnitCarry};
 pub use laws::{
     behaviours_exist, claims_are_feasible, histories_are_safe, no_write_could_go_sooner,
     reservations_live_on,
