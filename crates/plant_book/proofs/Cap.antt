@@ -97,6 +97,8 @@ grant_cases replies.Crowded = inr refl
 grant_cases replies.NoRead = inr refl
 grant_cases (replies.Strange raw) = inr refl
 grant_cases replies.NoWrite = inr refl
+grant_cases (replies.CapSet cap ceiling) = inr refl
+grant_cases (replies.CapOut least most) = inr refl
 
 -- what is reserved in all is at most the cap from the last moment of these entries on
 abbrev pub IsCapped : BookRecord → List Entry → Type 0

@@ -6,14 +6,17 @@ pub mod Part
 pub mod Calls
 pub mod Requests
 pub mod Writes
+pub mod Caps
 pub mod Reserved
 pub mod Policy
 pub mod Answer
+pub mod Ceiling
 pub mod Answered
 pub mod Carry
 pub mod History
 pub mod Behaviour
 pub mod Held
 pub mod Safe
+pub mod Covered
 pub mod Lifetime
 pub mod Tight

@@ -7,6 +7,7 @@
 mod book;
 mod call;
 mod carry;
+mod caps;
 mod laws;
 mod live;
 mod policy;
@@ -23,6 +24,7 @@ pub use laws::{
     behaviours_exist, claims_are_feasible, histories_are_safe, no_write_could_go_sooner,
     reservations_live_on,
 };
+pub use caps::{cap_plain, ceiling_plain};
 pub use port::Port;
 pub use replies::{answer, goal_plain, is_stopped, reserved_plain, total_plain};
 pub use share_policy::{Claim, Policy};

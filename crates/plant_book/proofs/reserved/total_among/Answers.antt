@@ -2,7 +2,7 @@ use Rattle.std.proofs.Common.{◌≡◌, ℕ, refl, ap, ◌∙◌, add-one, arit
 use Rattle.plant_book.specs.Sums.{sum_below}
 use Rattle.plant_book.specs.Reserved as sums
 use Rattle.plant_book.specs.Site.{inverters}
-use Rattle.plant_book.proofs.reserved.total_at.Goals as goal
+use Rattle.plant_book.proofs.reserved.total_among.Goals as goal
 
 pub loop-inverter-init : goal.loop-inverter-init
 unfolding sum_below
@@ -14,7 +14,7 @@ loop-inverter-preserved c =
     record { summed = rw add-one (omega (arith, c.loop-inverter.invariant.summed, c.reserved_at-total.ensures.watts)); below = omega (arith, c.loop-inverter.invariant.below, c.reserved_at-total.ensures.below) }
 
 pub returns : goal.returns
-unfolding sums.total_at
+unfolding sums.total_among
 returns c =
     let book = c.args.book.now in
     let all : c.loop-inverter.inverter ≡ inverters book.site = omega (arith, c.loop-inverter-test.false, c.loop-inverter.auto.inverter-end, c.inverters-inverter-end.ensures) in
