@@ -6,8 +6,8 @@
 
 mod book;
 mod call;
-mod carry;
 mod caps;
+mod carry;
 mod laws;
 mod live;
 mod policy;
@@ -19,12 +19,12 @@ mod site;
 
 pub use book::{Book, ENTRY_BYTES_MAX, Entry};
 pub use call::{Call, LIVE_MAX, MOMENT_MAX, REQUESTS_MAX, Read, Reply, WISH_MAX, Write};
+pub use caps::{cap_plain, ceiling_plain};
 pub use carry::{CALLS_MAX, CapMark, Carry, UnitCarry};
 pub use laws::{
     behaviours_exist, claims_are_feasible, histories_are_safe, no_write_could_go_sooner,
     reservations_live_on,
 };
-pub use caps::{cap_plain, ceiling_plain};
 pub use port::Port;
 pub use replies::{answer, goal_plain, is_stopped, reserved_plain, total_plain};
 pub use share_policy::{Claim, Policy};
