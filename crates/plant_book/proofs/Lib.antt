@@ -21,3 +21,4 @@ pub mod Device
 pub mod Prefix
 pub mod Growth
 pub mod Safe
+pub mod Behind

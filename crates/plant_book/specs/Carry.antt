@@ -3,11 +3,12 @@ use Rattle.std.specs.Prelude.{◌≡◌, ℕ, ◌≤◌, List, [], ◌∷◌, �
 use Rattle.std.specs.List.{range_with_len}
 use Rattle.plant_book.specs.declared.book.Entry.{Entry}
 use Rattle.plant_book.specs.declared.carry.CapMark as marks
+use Rattle.plant_book.specs.declared.call.Write as writes
 use Rattle.plant_book.specs.Sums.{last_that}
 use Rattle.plant_book.specs.Calls.{moment}
 use Rattle.plant_book.specs.Site.{SiteRecord, inverters}
 use Rattle.plant_book.specs.Book.{BookRecord}
-use Rattle.plant_book.specs.Part.{UnitRecord, CarryRecord, PartRecord, book_behind}
+use Rattle.plant_book.specs.Part.{UnitRecord, CarryRecord, PartRecord, book_behind, book_before}
 use Rattle.plant_book.specs.Requests.{link_number, requests, pending_read}
 use Rattle.plant_book.specs.Policy.{is_strange, wish}
 use Rattle.plant_book.specs.Writes.{live}
@@ -17,6 +18,10 @@ use Rattle.plant_book.specs.Answer.{is_stopped}
 use Rattle.plant_book.specs.Ceiling.{total_when_set}
 use Rattle.plant_book.specs.Answered.{IsBook}
 
+-- the writes of an inverter that are live at the last moment of a book
+abbrev pub live_writes : BookRecord → ℕ → List writes.Write
+live_writes book inverter = live book.site.rules book.entries (now_of book) inverter
+
 -- what a book leaves of an inverter
 abbrev pub unit_of : BookRecord → ℕ → UnitRecord
 unit_of book inverter = record {
@@ -25,7 +30,7 @@ unit_of book inverter = record {
   pending = pending_read inverter book.entries;
   strange = is_strange inverter book.entries;
   wish = wish book inverter;
-  writes = live book.site.rules book.entries (now_of book) inverter;
+  writes = live_writes book inverter;
 }
 
 abbrev pub mark_by : BookRecord → Option Entry → Option marks.CapMark
@@ -50,7 +55,7 @@ carry_of book = record {
 -- The book of a part is right behind these entries: the part begins with what they leave, the first of a life
 -- with nothing, and the joined book is one of right replies.
 pub record IsBehind (before : List Entry) (part : PartRecord) : Type 0 where
-  pub carry : MatchOption part.carry (before ≡ []) (λ carry. carry ≡ carry_of (record { site = part.site; start = part.start; entries = before }))
+  pub carry : MatchOption part.carry (before ≡ []) (λ carry. carry ≡ carry_of (book_before before part))
   pub book : IsBook (book_behind before part)
 
 -- the entries of books one after another

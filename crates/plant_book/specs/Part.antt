@@ -1,5 +1,5 @@
 -- What contracts see of a book: a part of a life, which may begin with what the parts before it leave.
-use Rattle.std.specs.Prelude.{ℕ, Bool, List, ◌++◌, Option, Some, None}
+use Rattle.std.specs.Prelude.{ℕ, ◌+◌, Bool, List, ◌++◌, length, take, Option, Some, None}
 use Rattle.plant_book.specs.declared.call.Write as writes
 use Rattle.plant_book.specs.declared.call.Read as reads
 use Rattle.plant_book.specs.declared.carry.CapMark as marks
@@ -44,6 +44,27 @@ book_behind before part = record { site = part.site; start = part.start; entries
 abbrev pub moment_carried : ℕ → Option CarryRecord → ℕ
 moment_carried start None = start
 moment_carried start (Some carry) = carry.last
+
+abbrev pub calls_carried : Option CarryRecord → ℕ
+calls_carried None = 0
+calls_carried (Some carry) = carry.calls
+
+-- the count of calls of the life up to and with a part
+abbrev pub calls_of : PartRecord → ℕ
+calls_of part = calls_carried part.carry + length part.entries
+
+-- the book before a part, where these are its entries
+abbrev pub book_before : List Entry → PartRecord → BookRecord
+book_before before part = record { site = part.site; start = part.start; entries = before }
+
+-- a part with its first entries alone
+abbrev pub part_first : PartRecord → ℕ → PartRecord
+part_first part count = record {
+  site = part.site;
+  start = part.start;
+  carry = part.carry;
+  entries = take count part.entries;
+}
 
 -- the moment at which a part begins: the last one of those before it, or the start of the life
 abbrev pub begin_of : PartRecord → ℕ

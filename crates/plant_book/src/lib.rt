@@ -4,6 +4,7 @@
 //! from the whole list; `answer` and `reserved_plain` compute it so.
 #![tactic(auto)]
 
+mod before;
 mod book;
 mod call;
 mod caps;
