@@ -49,13 +49,9 @@ calls_of-is part before is = omega (arith, calls_carried-is part before part.car
 
 -- the moment at which a part begins is the last one of those before it
 moment_carried-is : (part : PartRecord) (before : List Entry) (carry : Option CarryRecord) → part.carry ≡ carry → IsBehind before part → moment_carried part.start carry ≡ latest part.start before
-unfolding latest
+unfolding latest now_of
 moment_carried-is part before None has is = ap (latest part.start) (sym (nothing_before part before is has))
-moment_carried-is part before (Some carry) has is = ap (λ (k : CarryRecord). k.last) (carry_is part before carry is has) ∙ now_is
-  where
-    now_is : now_of (book_before before part) ≡ latest part.start before
-    unfolding now_of
-    now_is = refl
+moment_carried-is part before (Some carry) has is = ap (λ (k : CarryRecord). k.last) (carry_is part before carry is has)
 
 latest-append : (start : ℕ) (before later : List Entry) → latest start (before ++ later) ≡ latest (latest start before) later
 unfolding latest

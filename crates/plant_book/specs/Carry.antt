@@ -33,6 +33,10 @@ unit_of book inverter = record {
   writes = live_writes book inverter;
 }
 
+-- what it leaves of all inverters, by their numbers
+abbrev pub units_of : BookRecord → List UnitRecord
+units_of book = map (unit_of book) (range_with_len 0 (inverters book.site))
+
 abbrev pub mark_by : BookRecord → Option Entry → Option marks.CapMark
 mark_by book None = None
 mark_by book (Some set) = Some (record { at = moment set.call; was = total_when_set book })
@@ -49,7 +53,7 @@ carry_of book = record {
   cap = cap_of book;
   set = mark_of book;
   stop = is_stopped book;
-  units = map (unit_of book) (range_with_len 0 (inverters book.site));
+  units = units_of book;
 }
 
 -- The book of a part is right behind these entries: the part begins with what they leave, the first of a life

@@ -1,11 +1,13 @@
 -- What is reserved for an inverter covers what it may hold, and after a lowering what is reserved comes back under the
 -- cap.
-use Rattle.std.specs.Prelude.{◌≡◌, ℕ, ◌+◌, ◌<◌, ◌≤◌, ◌⊎◌, List, [], IfSome}
+use Rattle.std.specs.Prelude.{◌≡◌, ℕ, ◌+◌, ◌<◌, ◌≤◌, ◌⊎◌, true, if◌then◌else◌, List, [], IfSome}
 use Rattle.limiter_num.specs.Timers.{reach}
+use Rattle.plant_book.specs.declared.call.Reply.TheVariants as replies
+use Rattle.plant_book.specs.declared.book.Entry.{Entry}
 use Rattle.plant_book.specs.Sums.{last_that}
 use Rattle.plant_book.specs.Book.{BookRecord}
 use Rattle.plant_book.specs.Calls.{moment}
-use Rattle.plant_book.specs.Caps.{sets_cap, cap_of}
+use Rattle.plant_book.specs.Caps.{sets_cap, cap_by, cap_of}
 use Rattle.plant_book.specs.Reserved.{reserved, total, now_of}
 use Rattle.plant_book.specs.Answer.{silent_until}
 use Rattle.plant_book.specs.Ceiling.{ceiling}
@@ -39,3 +41,8 @@ IsUnderCeiling book = total book ≤ ceiling book
 abbrev pub IsBackUnderCap : BookRecord → Type 0
 IsBackUnderCap book = IfSome (last_that sets_cap book.entries)
     (λ set. moment set.call + reach book.site.rules < now_of book → total book ≤ cap_of book)
+
+-- Only an entry that sets the cap changes it, to what its Cap wants, and it tells this cap and the ceiling.
+pub record TellsCap (old : BookRecord) (entry : Entry) (new : BookRecord) : Type 0 where
+  pub cap : cap_of new ≡ (if sets_cap entry then cap_by old.site.cap entry.call else cap_of old)
+  pub told : sets_cap entry ≡ true → entry.reply ≡ replies.CapSet (cap_of new) (ceiling new)

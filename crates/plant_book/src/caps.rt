@@ -48,7 +48,9 @@ fn cap_from(from: u64, entries: &[Entry]) -> u64
 /// The cap in force, in mW.
 #[tactic(auto, unfolding(crate::specs::Caps::cap_of))]
 pub fn cap_plain(book: &Book) -> u64
-    ensures { EachBook book.now (λ whole. result ≡ rule.cap_of whole) }
+    requires { IsBookPart book.now }
+    ensures cap { EachBook book.now (λ whole. result ≡ rule.cap_of whole) }
+    ensures high { result ≤ book.now.site.cap }
 {
     cap_from(cap_before(book), book.entries())
 }
@@ -100,8 +102,9 @@ fn ceiling_since(book: &Book, mark: Option<CapMark>) -> u64
         → result ≡ ceilings.ceiling_since whole (last_that rule.sets_cap whole.entries)) }
 {
     match mark {
-        Some(mark) if book.latest() <= mark.at.saturating_add(book.rules().reach()) =>
-            cap_plain(book).max(mark.was),
+        Some(mark) if book.latest() <= mark.at.saturating_add(book.rules().reach()) => cap_plain(
+            book,
+        ).max(mark.was),
         Some(_) => cap_plain(book),
         None => book.site_cap(),
     }

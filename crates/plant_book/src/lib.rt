@@ -16,6 +16,7 @@ mod port;
 mod replies;
 mod requests;
 mod reserved;
+mod rolling;
 mod site;
 
 pub use book::{Book, ENTRY_BYTES_MAX, Entry};
@@ -23,10 +24,12 @@ pub use call::{Call, LIVE_MAX, MOMENT_MAX, REQUESTS_MAX, Read, Reply, WISH_MAX, 
 pub use caps::{cap_plain, ceiling_plain};
 pub use carry::{CALLS_MAX, CapMark, Carry, UnitCarry};
 pub use laws::{
-    behaviours_exist, claims_are_feasible, histories_are_safe, no_write_could_go_sooner,
-    reservations_live_on,
+    behaviours_exist, caps_are_told, claims_are_feasible, histories_are_safe, lives_are_joined,
+    no_write_could_go_sooner, reservations_live_on, totals_come_back_under_the_cap,
+    what_is_held_is_reserved,
 };
 pub use port::Port;
 pub use replies::{answer, goal_plain, is_stopped, reserved_plain, total_plain};
+pub use rolling::carry_after;
 pub use share_policy::{Claim, Policy};
 pub use site::{CAP_MAX, FloorOut, INVERTERS_MAX, ROOM_MAX, Site, Unit};

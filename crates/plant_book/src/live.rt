@@ -63,7 +63,12 @@ fn ends(book: &Book, place: usize, entry: &Entry, write: &Write) -> bool
         } => entry.reply == Reply::Taken && is_numbered(write, inverter, link, number),
         Call::Saw { inverter, raw, .. } => {
             matches!(entry.reply, Reply::Freed { .. })
-                && frees(&book.rules(), pending_first(book, place, inverter), raw, write)
+                && frees(
+                    &book.rules(),
+                    pending_first(book, place, inverter),
+                    raw,
+                    write,
+                )
         }
         _ => false,
     }
@@ -90,7 +95,7 @@ fn stays(book: &Book, place: usize, entry: &Entry, write: &Write) -> bool
 fn left_after(book: &Book, place: usize, entry: &Entry, live: &LiveWrites) -> LiveWrites
     requires of_site { IfSome (named entry.now.call) (λ inverter. inverter < inverters book.now.site) }
     requires within { place ≤ length book.now.entries }
-    ensures left { EachBefore book.now (λ before. result.items
+    ensures { EachBefore book.now (λ before. result.items
         ≡ filter (stays_by book.now.site.rules (before ++ take place book.now.entries) entry.now)
         live.now.items) }
 {

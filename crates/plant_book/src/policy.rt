@@ -53,7 +53,7 @@ fn strange_from(from: bool, entries: &[Entry], inverter: u8) -> bool
 }
 
 /// Whether the last read-back of the inverter was strange.
-fn is_strange(book: &Book, inverter: u8) -> bool
+pub fn is_strange(book: &Book, inverter: u8) -> bool
     requires { inverter < inverters book.now.site }
     ensures { EachBook book.now (λ whole. result ≡ rule.is_strange inverter whole.entries) }
 {
@@ -91,7 +91,7 @@ fn wish_from(from: u64, entries: &[Entry], inverter: u8) -> u64
 
 /// The wish of the inverter, in mW.
 #[tactic(auto, unfolding(crate::specs::Policy::wish))]
-fn wish(book: &Book, inverter: u8) -> u64
+pub fn wish(book: &Book, inverter: u8) -> u64
     requires { inverter < inverters book.now.site }
     ensures { EachBook book.now (λ whole. result ≡ rule.wish whole inverter) }
 {

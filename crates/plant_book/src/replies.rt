@@ -13,8 +13,8 @@ ghost use Rattle.plant_book.specs.Carry.{IsBookPart, EachBook};
 use crate::before::stop_before;
 use crate::book::{Book, Entry};
 use crate::call::{Call, LIVE_MAX, REQUESTS_MAX, Read, Reply, Write};
-use crate::carry::CALLS_MAX;
 use crate::caps::{cap_plain, ceiling_with};
+use crate::carry::CALLS_MAX;
 use crate::live::{LiveWrites, is_numbered, left_by, live_writes};
 use crate::policy::target_at;
 use crate::requests::{link_number, pending_read, requests};
@@ -283,7 +283,14 @@ pub fn goal_plain(book: &Book, inverter: u8) -> u16
 pub fn is_stopped(book: &Book) -> bool
     ensures { EachBook book.now (λ whole. result ≡ rule.is_stopped whole) }
 {
-    stop_before(book) || book.entries().iter().any(is_stop)
+    stop_before(book) || has_stop(book.entries())
+}
+
+/// Whether one of the entries is a Stop.
+fn has_stop(entries: &[Entry]) -> bool
+    ensures { result ≡ list_any (λ entry. rule.stops entry.call) entries.now }
+{
+    entries.iter().any(is_stop)
 }
 
 /// Whether the entry is a Stop.

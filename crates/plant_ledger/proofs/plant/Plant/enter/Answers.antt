@@ -12,6 +12,8 @@ use Rattle.plant_book.specs.Reserved.{now_of}
 use Rattle.plant_book.specs.Answer.{reply_to}
 use Rattle.plant_book.specs.Answered.{IsNext, IsBook, IsInRange}
 use Rattle.plant_book.proofs.Lifetime.{lives_on, changes_nothing}
+use Rattle.plant_book.specs.Covered.{TellsCap}
+use Rattle.plant_book.proofs.Lowered.{tells_cap}
 use Rattle.plant_ledger.specs.Plant.{LeavesReservations}
 use Rattle.plant_book.proofs.Growth.{IsNext-entered, IsBook-push, with_entry}
 use Rattle.plant_ledger.proofs.plant.Plant.enter.Goals as goal
@@ -79,3 +81,21 @@ returns-clause-reserved c =
     let of_new = subst (λ (b : BookRecord). LeavesReservations book (record { call = call; reply = reply }) b) (sym c.push.ensures) left in
     let of_call = subst (λ (m : Call). LeavesReservations book (record { call = m; reply = reply }) c.push.new.self) is of_new in
     subst (λ (b : BookRecord). LeavesReservations b (record { call = entered b.start b.entries c.args.call; reply = reply }) c.push.new.self) c.self.view_is of_call
+
+tells : (book : BookRecord) (call moved : Call) (reply : Reply) → moved ≡ entered book.start book.entries call → IsNext book.site book.start book.entries moved → reply ≡ reply_to book moved
+    → TellsCap book (record { call = moved; reply = reply }) (with_entry book (record { call = moved; reply = reply }))
+unfolding now_of
+tells book call moved reply is may right = tells_cap book (record { call = moved; reply = reply }) right may.later
+
+pub returns-clause-told : goal.returns-clause-told
+returns-clause-told c =
+    let book = c.self.inside.book in
+    let call = c.at_moment-call.result in
+    let reply = c.answer-reply.result in
+    let is = entered-is book c.args.call call c.max.result c.at.result c.latest.result c.at.ensures c.latest.ensures c.max.ensures c.at_moment-call.ensures in
+    let may = next book c.args.call call is c.self.invariant c.requires.moment
+    (subst (λ (b : BookRecord). IfSome (named c.args.call) (λ inverter. inverter < inverters b.site)) (sym c.self.view_is) c.requires.of_site) c.requires.in_range in
+    let told = tells book c.args.call call reply is may c.answer-reply.ensures in
+    let of_new = subst (λ (b : BookRecord). TellsCap book (record { call = call; reply = reply }) b) (sym c.push.ensures) told in
+    let of_call = subst (λ (m : Call). TellsCap book (record { call = m; reply = reply }) c.push.new.self) is of_new in
+    subst (λ (b : BookRecord). TellsCap b (record { call = entered b.start b.entries c.args.call; reply = reply }) c.push.new.self) c.self.view_is of_call
