@@ -16,8 +16,8 @@ use crate::opening::{OpenFault, refuse};
 use crate::ticket::{Ticket, ticket_with};
 use limiter_num::NoMemory;
 use plant_book::{
-    Book, Call, Entry, MOMENT_MAX, Reply, Site, Write, answer, cap_plain, ceiling_plain, goal_plain,
-    is_stopped, reserved_plain, total_plain,
+    Book, Call, Entry, MOMENT_MAX, Reply, Site, Write, answer, cap_plain, ceiling_plain,
+    goal_plain, is_stopped, reserved_plain, total_plain,
 };
 use std::alloc::Global;
 use std::marker::Model;
