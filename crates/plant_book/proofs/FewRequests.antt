@@ -1,20 +1,19 @@
 -- No link has more than 65,535 requests.
-use Rattle.std.proofs.Common.{◌≡◌, ℕ, ◌+◌, ◌<◌, ◌≤◌, Bool, true, false, cond, eqb, leb, List, [], ◌∷◌, ◌++◌, refl, sym, ap, subst, ◌∙◌, append_assoc, arith, inl, inr}
+use Rattle.std.proofs.Common.{◌≡◌, ℕ, ◌+◌, ◌<◌, ◌≤◌, true, List, [], ◌∷◌, ◌++◌, refl, sym, subst, ◌∙◌, append_assoc, arith, inl, inr}
 use Rattle.std.proofs.lemmas.List.{append-nil}
-use Rattle.std.proofs.lemmas.Bool.{cases_Bool, eqb-true, leb-false}
+use Rattle.std.proofs.lemmas.Bool.{cases_Bool, eqb-true}
 use Rattle.plant_book.specs.declared.call.Call.{Call}
-use Rattle.plant_book.specs.declared.call.Call.TheVariants as calls
 use Rattle.plant_book.specs.declared.call.Reply.{Reply}
 use Rattle.plant_book.specs.declared.call.Reply.TheVariants as replies
 use Rattle.plant_book.specs.declared.call.TheConstants.{REQUESTS_MAX}
 use Rattle.plant_book.specs.declared.book.Entry.{Entry}
 use Rattle.plant_book.specs.Book.{BookRecord}
-use Rattle.plant_book.specs.Requests.{is_link, is_request, grants_to, link_number, requests}
-use Rattle.plant_book.specs.Answer.{reply_to, reply_to_ask, reply_to_read}
+use Rattle.plant_book.specs.Requests.{is_link, is_request, grants_to, requests}
+use Rattle.plant_book.specs.Answer.{reply_to}
 use Rattle.plant_book.specs.Answered.{EachInTurn, IsAnswer, IsBook, with_entries}
 use Rattle.plant_book.proofs.Steps.{requests-push_link, requests-push}
-use Rattle.plant_book.proofs.Granting.{granted_is_covered, IsCovered}
-use Rattle.plant_book.proofs.Numbers.{read_is_at, IsReadAt}
+use Rattle.plant_book.proofs.Granting.{granted_is_covered}
+use Rattle.plant_book.proofs.Numbers.{read_is_at}
 
 -- an entry that makes a request finds one left
 request_left : (inverter : ℕ) (book : BookRecord) (call : Call) (reply : Reply) → reply ≡ reply_to book call → grants_to inverter reply ≡ true → requests inverter book.entries < REQUESTS_MAX

@@ -1,16 +1,14 @@
 -- The live writes after one more entry of a part, where it is right behind some entries.
-use Rattle.std.proofs.Common.{◌≡◌, ℕ, zero, suc, ◌+◌, ◌<◌, ◌≤◌, Bool, leb, List, [], ◌∷◌, ◌++◌, length, take, get_or, refl, sym, ap, subst, ◌∙◌, append_assoc, add-one, arith}
-use Rattle.std.specs.Prelude.{filter, IfSome}
-use Rattle.std.proofs.lemmas.List.{append-nil, length-append, take_all}
+use Rattle.std.proofs.Common.{◌≡◌, ℕ, zero, suc, ◌+◌, ◌<◌, ◌≤◌, leb, List, [], ◌∷◌, ◌++◌, length, take, get_or, refl, sym, ap, subst, ◌∙◌, append_assoc, arith}
+use Rattle.std.specs.Prelude.{filter}
+use Rattle.std.proofs.lemmas.List.{append-nil, take_all}
 use Rattle.limiter_num.specs.Timers.{reach}
 use Rattle.plant_book.specs.declared.call.Write as writes
 use Rattle.plant_book.specs.declared.book.Entry.{Entry}
-use Rattle.plant_book.specs.Site.{inverters}
-use Rattle.plant_book.specs.Book.{BookRecord}
-use Rattle.plant_book.specs.Calls.{moment, named, latest}
-use Rattle.plant_book.specs.Writes.{ends, live, standing, is_current}
+use Rattle.plant_book.specs.Calls.{moment, latest}
+use Rattle.plant_book.specs.Writes.{live, standing, is_current}
 use Rattle.plant_book.specs.Reserved.{now_of}
-use Rattle.plant_book.specs.Answered.{EachInTurn, IsAnswer, IsNext, IsBook}
+use Rattle.plant_book.specs.Answered.{EachInTurn, IsAnswer, IsNext}
 use Rattle.plant_book.specs.Lifetime.{stays_by, granted_to}
 use Rattle.plant_book.specs.Part.{PartRecord, book_behind, book_before, part_first, last_moment_of}
 use Rattle.plant_book.specs.Carry.{live_writes, IsBehind}

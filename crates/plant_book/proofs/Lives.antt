@@ -1,9 +1,8 @@
 -- The last book of a life is right behind the entries of those before it.
-use Rattle.std.proofs.Common.{◌≡◌, ℕ, List, [], ◌∷◌, ◌++◌, Option, Some, None, MatchOption, refl, sym, ap, subst, ◌∙◌, append_assoc}
+use Rattle.std.proofs.Common.{◌≡◌, ℕ, List, [], ◌∷◌, ◌++◌, Option, Some, None, MatchOption, refl, sym, subst, append_assoc}
 use Rattle.std.proofs.lemmas.List.{append-nil}
-use Rattle.plant_book.specs.declared.book.Entry.{Entry}
 use Rattle.plant_book.specs.Site.{SiteRecord}
-use Rattle.plant_book.specs.Part.{CarryRecord, PartRecord, book_before}
+use Rattle.plant_book.specs.Part.{CarryRecord, PartRecord}
 use Rattle.plant_book.proofs.Last.{some_is}
 use Rattle.plant_book.specs.Carry.{carry_of, carry_behind, entries_of, IsPart, AreParts, Life, IsLife, IsBehind}
 

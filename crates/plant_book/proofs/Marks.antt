@@ -1,12 +1,12 @@
 -- The mark of the last Cap that was set, after one more entry of a part, and the ceiling by it.
-use Rattle.std.proofs.Common.{◌≡◌, ℕ, ◌+◌, ◌<◌, ◌≤◌, max, Bool, true, false, leb, cond, List, [], ◌∷◌, ◌++◌, length, take, get_or, Option, Some, None, refl, sym, ap, ◌∙◌, arith}
+use Rattle.std.proofs.Common.{◌≡◌, ℕ, ◌+◌, ◌<◌, ◌≤◌, max, true, false, leb, List, [], ◌∷◌, ◌++◌, Option, Some, None, refl, ap, ◌∙◌, arith}
 use Rattle.std.proofs.lemmas.Bool.{le-leb, lt-leb}
 use Rattle.limiter_num.specs.Timers.{reach}
 use Rattle.plant_book.specs.declared.book.Entry.{Entry}
 use Rattle.plant_book.specs.declared.carry.CapMark as marks
-use Rattle.plant_book.specs.Sums.{last_that, through_last}
+use Rattle.plant_book.specs.Sums.{last_that}
 use Rattle.plant_book.specs.Book.{BookRecord}
-use Rattle.plant_book.specs.Calls.{moment, latest}
+use Rattle.plant_book.specs.Calls.{moment}
 use Rattle.plant_book.specs.Caps.{sets_cap, cap_of}
 use Rattle.plant_book.specs.Reserved.{now_of, total_at, total}
 use Rattle.plant_book.specs.Ceiling.{total_when_set, ceiling_since}

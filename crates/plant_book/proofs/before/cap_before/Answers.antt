@@ -1,4 +1,4 @@
-use Rattle.std.proofs.Common.{◌≡◌, None, refl, sym, ap, ◌∙◌}
+use Rattle.std.proofs.Common.{◌≡◌, None, sym, ap, ◌∙◌}
 use Rattle.plant_book.specs.Sums.{last_that}
 use Rattle.plant_book.specs.Caps.{cap_of}
 use Rattle.plant_book.specs.Part.{PartRecord}

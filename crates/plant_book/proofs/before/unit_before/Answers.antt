@@ -1,6 +1,5 @@
-use Rattle.std.proofs.Common.{◌≡◌, ℕ, ◌<◌, List, Some, length, get_or, sym, ap, subst, ◌∙◌, ltb}
-use Rattle.std.specs.Prelude.{IfSome, is_some}
-use Rattle.plant_book.specs.Part.{UnitRecord, CarryRecord, PartRecord}
+use Rattle.std.proofs.Common.{◌≡◌, Some, sym, ap, ◌∙◌}
+use Rattle.plant_book.specs.Part.{CarryRecord, PartRecord}
 use Rattle.plant_book.proofs.Behind.{found_unit}
 use Rattle.plant_book.proofs.before.unit_before.Goals as goal
 

@@ -1,4 +1,3 @@
-use Rattle.std.proofs.Common.{refl}
 use Rattle.plant_book.specs.Policy.{wish}
 use Rattle.plant_book.specs.Sums.{last_that}
 use Rattle.plant_book.proofs.before.wish_before.Goals as goal

@@ -1,4 +1,4 @@
-use Rattle.std.proofs.Common.{◌≡◌, ◌∙◌, arith}
+use Rattle.std.proofs.Common.{arith}
 use Rattle.plant_book.specs.Caps as rule
 use Rattle.plant_book.specs.Part.{book_behind}
 use Rattle.plant_book.proofs.CapInForce.{cap_within}

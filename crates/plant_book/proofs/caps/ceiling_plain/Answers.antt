@@ -1,7 +1,5 @@
-use Rattle.std.proofs.Common.{◌≡◌, ◌≤◌, ◌<◌, leb, true, false, refl, sym, ap, ◌∙◌, arith}
+use Rattle.std.proofs.Common.{◌≡◌, leb, true, false, arith}
 use Rattle.std.proofs.lemmas.Bool.{le-leb, lt-leb}
-use Rattle.plant_book.specs.Sums.{last_that}
-use Rattle.plant_book.specs.Caps as rule
 use Rattle.plant_book.specs.Answer.{silent_until}
 use Rattle.plant_book.specs.Reserved.{now_of}
 use Rattle.plant_book.specs.Ceiling as ceilings

@@ -1,4 +1,4 @@
-use Rattle.std.proofs.Common.{◌≡◌, ℕ, ◌+◌, ◌++◌, ◌∷◌, [], List, take, get_or, Option, Some, sym, ap, ◌∙◌, arith}
+use Rattle.std.proofs.Common.{◌≡◌, ℕ, ◌++◌, ◌∷◌, [], List, take, get_or, Option, Some, sym, ap, ◌∙◌, arith}
 use Rattle.std.proofs.lemmas.List.{take_more}
 use Rattle.plant_book.specs.declared.call.Call.TheVariants as calls
 use Rattle.plant_book.specs.declared.call.Reply.TheVariants as replies
@@ -7,7 +7,7 @@ use Rattle.plant_book.specs.declared.carry.CapMark as marks
 use Rattle.plant_book.specs.Calls.{moment, latest}
 use Rattle.plant_book.specs.Reserved.{total_at}
 use Rattle.plant_book.specs.Answered.{with_entries}
-use Rattle.plant_book.specs.Part.{begin_of, book_behind, part_first}
+use Rattle.plant_book.specs.Part.{begin_of, book_behind}
 use Rattle.plant_book.specs.Carry.{mark_of}
 use Rattle.plant_book.proofs.Steps.{latest-push, behind_more}
 use Rattle.plant_book.proofs.Marks.{mark_of-sets, mark_of-stays}

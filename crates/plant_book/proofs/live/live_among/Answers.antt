@@ -1,4 +1,4 @@
-use Rattle.std.proofs.Common.{sym, ◌∙◌}
+use Rattle.std.proofs.Common.{sym}
 use Rattle.plant_book.proofs.LiveSteps.{live_later}
 use Rattle.plant_book.proofs.live.live_among.Goals as goal
 

@@ -1,5 +1,4 @@
-use Rattle.std.proofs.Common.{List, refl, sym, ap, ◌∙◌}
-use Rattle.plant_book.specs.declared.book.Entry.{Entry}
+use Rattle.std.proofs.Common.{sym, ap, ◌∙◌}
 use Rattle.plant_book.specs.Requests as counted
 use Rattle.plant_book.proofs.Steps.{behind_none, last_that-behind_passes, last_that-behind_fails}
 use Rattle.plant_book.proofs.requests.pending_from.Goals as goal

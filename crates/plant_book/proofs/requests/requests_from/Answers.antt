@@ -1,5 +1,4 @@
-use Rattle.std.proofs.Common.{ℕ, List, refl, sym, ap, ◌∙◌, true, false, arith}
-use Rattle.plant_book.specs.declared.book.Entry.{Entry}
+use Rattle.std.proofs.Common.{sym, ap, ◌∙◌, true, false, arith}
 use Rattle.plant_book.specs.Requests as counted
 use Rattle.plant_book.proofs.Steps.{behind_none, requests-behind_link, requests-behind}
 use Rattle.plant_book.proofs.requests.requests_from.Goals as goal
