@@ -5,12 +5,15 @@
 //! send one granted write, once.
 #![tactic(auto)]
 
+mod entering;
 mod opening;
 mod plant;
+mod rolling;
 mod ticket;
 
 pub use opening::OpenFault;
 pub use plant::{BookFull, Goal, Outcome, Plant};
+pub use rolling::RollFault;
 pub use ticket::Ticket;
 
 #[cfg(test)]
