@@ -6,3 +6,5 @@ pub mod Ranges
 pub mod Taken
 pub mod Written
 pub mod Once
+pub mod Back
+pub mod Count

@@ -31,14 +31,14 @@ none_of : (a b : Option RulesOut) → timers.before a b ≡ None → (a ≡ None
 none_of None b e = (refl, e)
 none_of (Some fault) b e = absurd cc
 
-record Bounds (send delay timer per_mille slack : ℕ) : Type 0 where
-  send_high : send ≤ 60000
-  delay_high : delay ≤ 600000
-  timer_high : timer ≤ 86400
-  per_mille_high : per_mille ≤ 500
-  slack_high : slack ≤ 600000
+pub record Bounds (send delay timer per_mille slack : ℕ) : Type 0 where
+  pub send_high : send ≤ 60000
+  pub delay_high : delay ≤ 600000
+  pub timer_high : timer ≤ 86400
+  pub per_mille_high : per_mille ≤ 500
+  pub slack_high : slack ≤ 600000
 
-bounds_of : (send delay timer per_mille slack : ℕ) → rules_out send delay timer per_mille slack ≡ None → Bounds send delay timer per_mille slack
+pub bounds_of : (send delay timer per_mille slack : ℕ) → rules_out send delay timer per_mille slack ≡ None → Bounds send delay timer per_mille slack
 bounds_of send delay timer per_mille slack e =
     let a = none_of (range_fault Send send 1 60000) _ e in
     let b = none_of (range_fault Delay delay 0 600000) _ a.1 in

@@ -15,7 +15,7 @@ mod rows;
 mod script;
 mod text;
 
-pub use laws::one_reading;
+pub use laws::{lines_are_few, one_reading, texts_read_back};
 pub use line::{Line, LineKind};
 pub use script::{SCRIPT_BYTES_MAX, Script, ScriptFault, script_of};
 pub use text::{entry_text, head_text, restart_text, roll_text};
