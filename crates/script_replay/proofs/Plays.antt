@@ -1,8 +1,8 @@
 -- Deeds one behind the other, and what a line of a script may rely on.
-use Rattle.std.proofs.Common.{◌≡◌, ℕ, suc, ◌+◌, ◌<◌, ◌≤◌, max, List, [], ◌∷◌, ◌++◌, length, map, take, drop, get_or, Option, Some, None, refl, sym, ap, subst, ◌∙◌, arith, append_assoc, length-append, add-one}
+use Rattle.std.proofs.Common.{◌≡◌, ℕ, suc, ◌+◌, ◌<◌, ◌≤◌, max, List, [], ◌∷◌, ◌++◌, length, map, take, drop, get_or, Option, Some, None, refl, sym, ap, subst, ◌∙◌, arith, append_assoc, length-append, add-one, drop-cons}
 use Rattle.std.specs.Prelude.{IfSome, MatchOption}
 use Rattle.std.specs.List.{flat_map, AllByRecursion}
-use Rattle.std.proofs.lemmas.List.{append-nil, map_push, map-append, take_more, take-append-drop, drop-cons, flat_map_more, length-map, length-take}
+use Rattle.std.proofs.lemmas.List.{append-nil, map_push, map-append, take_more, take-append-drop, flat_map_more, length-map, length-take}
 use Rattle.std.proofs.lemmas.List.Concat.{flat_map-append}
 use Rattle.plant_book.specs.declared.call.Call.{Call}
 use Rattle.plant_book.specs.declared.call.Call.TheVariants as calls
@@ -139,7 +139,7 @@ unfolding now_of latest
 now_first site start its = refl
 
 few_deeds : (script : ScriptRecord) (count : ℕ) (deeds : List Deed) → map deed_line deeds ≡ take count script.lines → length deeds ≤ length script.lines
-few_deeds script count deeds are = omega (arith, ap length are, length-map deed_line deeds, length-take count script.lines)
+few_deeds script count deeds are = omega (arith, ap length are, length-map deeds deed_line, length-take count script.lines)
 
 pub line_fits : (script : ScriptRecord) (count : ℕ) (line : Line) (part : PartRecord) (text : List ℕ) → EachMayFollow [] (script_statements script) → length script.lines ≤ 134217728 → part.site.room ≤ 1048576 → count < length script.lines
     → line ≡ get_or script.lines count line → Played script count part text → LineFits part line

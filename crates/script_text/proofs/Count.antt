@@ -34,5 +34,5 @@ lines_within bytes script is =
       said_few (lines bytes) is.said is.say,
       ap length is.statements,
       length-append (head_statements script.site script.start) (map (λ (line : Line). Says line) script.lines),
-      length-map (λ (line : Line). Says line) script.lines,
+      length-map script.lines (λ (line : Line). Says line),
     )
