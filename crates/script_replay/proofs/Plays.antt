@@ -1,8 +1,8 @@
 -- Deeds one behind the other, and what a line of a script may rely on.
-use Rattle.std.proofs.Common.{◌≡◌, ℕ, suc, ◌+◌, ◌<◌, ◌≤◌, max, List, [], ◌∷◌, ◌++◌, length, map, take, drop, get_or, Option, Some, None, refl, sym, ap, subst, ◌∙◌, arith, append_assoc, length-append, add-one, drop-cons}
-use Rattle.std.specs.Prelude.{IfSome, MatchOption}
+use Rattle.std.proofs.Common.{◌≡◌, ℕ, zero, suc, Bool, true, false, ◌+◌, ◌<◌, ◌≤◌, max, List, [], ◌∷◌, ◌++◌, length, map, take, drop, get_or, Option, Some, None, Result, Ok, Err, refl, sym, ap, subst, ◌∙◌, arith, append_assoc, length-append, add-one, drop-cons}
+use Rattle.std.specs.Prelude.{IfSome, MatchOption, OnOk, is_some}
 use Rattle.std.specs.List.{flat_map, AllByRecursion}
-use Rattle.std.proofs.lemmas.List.{append-nil, map_push, map-append, take_more, take-append-drop, flat_map_more, length-map, length-take}
+use Rattle.std.proofs.lemmas.List.{append-nil, map_push, map-append, take_more, take-append-drop, flat_map_more, length-map, length-take, take_all}
 use Rattle.std.proofs.lemmas.List.Concat.{flat_map-append}
 use Rattle.plant_book.specs.declared.call.Call.{Call}
 use Rattle.plant_book.specs.declared.call.Call.TheVariants as calls
@@ -27,13 +27,16 @@ use Rattle.plant_ledger.specs.Plant as ledger
 use Rattle.script_text.specs.declared.line.Line.{Line}
 use Rattle.script_text.specs.declared.line.Line.TheVariants as lines
 use Rattle.script_text.specs.Grammar.{Statement, Begin, Says}
-use Rattle.script_text.specs.Script.{ScriptRecord, InRange, OfSite, InTime, MayFollow, EachMayFollow, inverters_in, latest_in, moment_on, last_of, site_statement, inverter_statement, head_statements, script_statements}
-use Rattle.script_text.specs.Text.{Deed, Entered, Begun, Rolled, deed_line, deed_text, lives_text}
+use Rattle.script_text.specs.Script.{ScriptRecord, InRange, OfSite, InTime, MayFollow, EachMayFollow, inverters_in, latest_in, moment_on, last_of, site_statement, inverter_statement, head_statements, script_statements, IsScript}
+use Rattle.script_text.specs.Text.{Deed, Entered, Begun, Rolled, deed_line, deed_text, head_text, lives_text}
 use Rattle.script_text.specs.Progress.{IsBegun}
 use Rattle.script_text.proofs.Steps.{begun_on}
 use Rattle.script_text.proofs.Taken.{head_begun}
 use Rattle.script_replay.specs.Chain.{Chain, empty_life, first_chain, chain_after, chain_behind, IsDone, AreDone, history_of, IsSafeChain}
-use Rattle.script_replay.specs.Playing.{Stands, LineFits, Played, Does, FindsFull}
+use Rattle.script_replay.specs.Playing.{Stands, LineFits, Played, Does, FindsFull, Steps, Ends, IsFirstLife}
+use Rattle.script_replay.specs.declared.replay.ReplayFault.{ReplayFault}
+use Rattle.script_replay.specs.declared.replay.ReplayFault.TheVariants as faults
+use Rattle.script_replay.specs.Replay.{IsReplay, Explains, RefusesSite}
 
 -- ---- one more deed
 
@@ -46,7 +49,7 @@ done_more chain [] deed done one = (one, tt)
 done_more chain (first ∷ deeds) deed done one = (done.0, done_more (chain_after chain first) deeds deed done.1 one)
 
 pub text_more : (site : SiteRecord) (start : ℕ) (deeds : List Deed) (deed : Deed) → lives_text site start (deeds ++ deed ∷ []) ≡ lives_text site start deeds ++ deed_text deed
-text_more site start deeds deed = sym (flat_map_more deed_text _ deeds deed)
+text_more site start deeds deed = sym (flat_map_more deed_text (head_text site start) deeds deed)
 
 pub played_more : (script : ScriptRecord) (count : ℕ) (line : Line) (old new : PartRecord) (before after : List ℕ) → count < length script.lines → line ≡ get_or script.lines count line → Played script count old before → Does line old new before after
     → Played script (count + 1) new after
@@ -141,9 +144,13 @@ now_first site start its = refl
 few_deeds : (script : ScriptRecord) (count : ℕ) (deeds : List Deed) → map deed_line deeds ≡ take count script.lines → length deeds ≤ length script.lines
 few_deeds script count deeds are = omega (arith, ap length are, length-map deeds deed_line, length-take count script.lines)
 
-pub line_fits : (script : ScriptRecord) (count : ℕ) (line : Line) (part : PartRecord) (text : List ℕ) → EachMayFollow [] (script_statements script) → length script.lines ≤ 134217728 → part.site.room ≤ 1048576 → count < length script.lines
+pub room_high : (script : ScriptRecord) → EachMayFollow [] (script_statements script) → script.site.room ≤ 1048576
+room_high script each = each.0.range.3
+
+pub line_fits : (script : ScriptRecord) (count : ℕ) (line : Line) (part : PartRecord) (text : List ℕ) → EachMayFollow [] (script_statements script) → length script.lines ≤ 134217728 → count < length script.lines
     → line ≡ get_or script.lines count line → Played script count part text → LineFits part line
-line_fits script count line part text each few room less is p =
+line_fits script count line part text each few less is p =
+    let room : part.site.room ≤ 1048576 = subst (λ (s : SiteRecord). s.room ≤ 1048576) (sym (site_is script count part text p)) (room_high script each) in
     let chain : Chain = chain_behind (first_chain script.site script.start) p.deeds in
     let moment_is : last_moment_of part ≡ last_of script.start (moments (take count script.lines)) =
     last_moment_of-is part p.stands.before p.stands.behind ∙ sym (ap now_of p.stands.life_is) ∙ now_behind (first_chain script.site script.start) p.deeds
@@ -204,8 +211,14 @@ entered_is start entries call later =
     let same : max (moment call) (latest start entries) ≡ moment call = omega (arith, later) in
     ap (λ (at : ℕ). at_moment at call) same ∙ same_moment call
 
+abbrev no_entries : List Entry
+no_entries = []
+
+no_entries_same : no_entries ≡ no_entries
+no_entries_same = refl
+
 first_behind : (part : PartRecord) → part.carry ≡ None → IsBook (book_behind [] part) → IsBehind [] part
-first_behind part none kept = record { carry = subst (λ (c : Option CarryRecord). MatchOption c ([] ≡ []) (λ carry. carry ≡ carry_of (book_before [] part))) (sym none) refl; book = kept }
+first_behind part none kept = record { carry = subst (λ (c : Option CarryRecord). MatchOption c (no_entries ≡ no_entries) (λ carry. carry ≡ carry_of (book_before no_entries part))) (sym none) no_entries_same; book = kept }
 
 now_is : (book : BookRecord) → now_of book ≡ latest book.start book.entries
 unfolding now_of
@@ -311,3 +324,79 @@ first_played script part text high is openable added =
 
 pub safe_chain : (chain : Chain) (part : PartRecord) → Stands chain part → IsSafeChain chain
 safe_chain chain part stands = record { commissioned = refl; history = stands.history; safe = safe_always (history_of chain) stands.history }
+
+pub on_ok : {T E : Type 0} (r : Result T E) (P Q : Type 0) → (P → Q) → OnOk r P → OnOk r Q
+on_ok (Ok x) P Q f p = f p
+on_ok (Err e) P Q f p = tt
+
+-- ---- the loop over the lines
+
+get_default : (xs : List Line) (i : ℕ) (d e : Line) → i < length xs → get_or xs i d ≡ get_or xs i e
+get_default [] i d e less = absurd (omega (arith, less))
+get_default (x ∷ xs) zero d e less = refl
+get_default (x ∷ xs) (suc i) d e less = get_default xs i d e (omega (arith, less))
+
+pub item_is : (xs ys : List Line) (i : ℕ) (d : Line) → xs ≡ ys → i < length xs → get_or xs i d ≡ get_or ys i (get_or xs i d)
+item_is xs ys i d same less = ap (λ (zs : List Line). get_or zs i d) same ∙ get_default ys i d (get_or xs i d) (omega (arith, less, ap length same))
+
+pub is_done : (line : Line) (old new : PartRecord) (before after : List ℕ) (full : Option ℕ) → is_some full ≡ false → Steps line old new before after full → Does line old new before after
+is_done line old new before after None none step = step
+is_done line old new before after (Some calls) none step = absurd cc
+
+pub ends_full : (script : ScriptRecord) (count : ℕ) (line : Line) (old new : PartRecord) (before after : List ℕ) (full : Option ℕ) → is_some full ≡ true → count < length script.lines → line ≡ get_or script.lines count line → Played script count old before
+    → Steps line old new before after full → Ends script new after full
+ends_full script count line old new before after None full less is p step = absurd cc
+ends_full script count line old new before after (Some calls) full less is p step =
+    let played : Played script count new after = subst (λ (part : PartRecord). Played script count part after) (sym step.same) (subst (λ (t : List ℕ). Played script count old t) (sym step.text) p) in
+    let site : old.site ≡ script.site = site_is script count old before p in
+    let room : old.site.room ≡ script.site.room = ap (λ (s : SiteRecord). s.room) site in
+    let cut : script.lines ≡ take count script.lines ++ line ∷ drop (suc count) script.lines =
+    sym (take-append-drop count script.lines) ∙ ap (λ (x : List Line). take count script.lines ++ x) (drop-cons script.lines count line less ∙ ap (λ (x : Line). x ∷ drop (suc count) script.lines) (sym is)) in (
+      count,
+      played,
+      step.call,
+      drop (suc count) script.lines,
+      cut ∙ ap (λ (x : Line). take count script.lines ++ x ∷ drop (suc count) script.lines) step.line_is,
+      ap (λ (b : PartRecord). length b.entries) step.same ∙ step.full ∙ room,
+      step.room ∙ room,
+    )
+
+-- ---- from bytes to the text
+
+pub start_high : (script : ScriptRecord) → EachMayFollow [] (script_statements script) → script.start ≤ MOMENT_MAX
+start_high script each =
+    let head : List Statement = site_statement script.site.cap script.site.rules script.site.policy script.site.room ∷ map inverter_statement script.site.units in
+    let its : List Statement = map (λ line. Says line) script.lines in
+    (each_at [] head its (Begin script.start) (subst (λ (x : List Statement). EachMayFollow [] x) (append_assoc head (Begin script.start ∷ []) its) each)).range
+
+pub begun : (bytes : List ℕ) (script : ScriptRecord) (part : PartRecord) (text : List ℕ) → IsScript bytes script → IsFirstLife script part → text ≡ head_text script.site script.start → Played script 0 part text
+begun bytes script part text is first added = first_played script part text (start_high script is.each) first.0 first.1 (added ∙ sym (append-nil (head_text script.site script.start)))
+
+pub refuses : (bytes : List ℕ) (script : ScriptRecord) (fault : ReplayFault) → IsScript bytes script → RefusesSite script.site fault → Explains fault bytes
+refuses bytes script faults.NoMemory is refused = tt
+refuses bytes script (faults.BadLine line kind) is refused = absurd refused
+refuses bytes script (faults.BadSite fault) is refused = record { script = script; is_script = is; refused = refused }
+
+pub is_replay : (bytes : List ℕ) (script : ScriptRecord) (part : PartRecord) (text : List ℕ) (full : Option ℕ) → IsScript bytes script → IsOpenable script.site → Ends script part text full → IsReplay bytes full text
+is_replay bytes script part text None is openable p = record {
+  script = script;
+  is_script = is;
+  openable = openable;
+  deeds = p.deeds;
+  reaches = p.lines_are ∙ take_all (length script.lines) script.lines (omega arith);
+  done = p.done;
+  safe = safe_chain (chain_behind (first_chain script.site script.start) p.deeds) part p.stands;
+  text_is = p.text_is;
+}
+is_replay bytes script part text (Some calls) is openable ends =
+    let p = ends.1 in
+    record {
+      script = script;
+      is_script = is;
+      openable = openable;
+      deeds = p.deeds;
+      reaches = (ends.2, ends.3, ends.4 ∙ ap (λ (x : List Line). x ++ lines.One ends.2 ∷ ends.3) (sym p.lines_are), p.stands.calls_are ∙ ends.5, ends.6);
+      done = p.done;
+      safe = safe_chain (chain_behind (first_chain script.site script.start) p.deeds) part p.stands;
+      text_is = p.text_is;
+    }

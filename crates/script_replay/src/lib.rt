@@ -4,7 +4,9 @@
 //! at every moment, stands in `specs/`.
 #![tactic(auto)]
 
+mod laws;
 mod playing;
 mod replay;
 
+pub use laws::{one_replay, room_is_enough};
 pub use replay::{ReplayFault, Replayed, replay_script};

@@ -1,4 +1,6 @@
 ghost use Rattle.std.specs.Prelude.{◌≡◌, ◌≤◌, ◌<◌, ◌+◌, List, [], length, OnOk, IfOk};
+ghost use Rattle.plant_book.specs.Carry.{EachBefore};
+ghost use Rattle.plant_ledger.specs.Plant.{Rolls};
 ghost use Rattle.script_text.specs.declared.line.Line.TheVariants as lines;
 ghost use Rattle.script_text.specs.Script.{EachMayFollow, script_statements};
 ghost use Rattle.script_replay.specs.Playing.{LineFits, IsNextLife, Does, Steps, Played, Ends};
@@ -33,7 +35,10 @@ fn next_life(alloc: Global, plant: &Plant, at: u64) -> Result<Plant, NoMemory>
     let Ok(site) = plant.site().clone() else {
         return Err(NoMemory);
     };
-    Plant::open(alloc, site, at).map_err(|_| NoMemory)
+    match Plant::open(alloc, site, at) {
+        Ok(next) => Ok(next),
+        Err(_) => Err(NoMemory),
+    }
 }
 
 /// Begins a life of the same site at a moment in ms, and adds the line.
@@ -45,16 +50,25 @@ fn restart(alloc: Global, plant: &mut Plant, text: &mut Vec<u8>, at: u64) -> Res
     restart_text(text, at)
 }
 
+/// Goes on with an empty book of the same life.
+fn next_book(alloc: Global, plant: &mut Plant) -> Result<(), NoMemory>
+    requires { LineFits plant.old lines.Roll }
+    ensures { OnOk result (EachBefore plant.old (λ before. Rolls before plant.old plant.new)) }
+{
+    match plant.roll(alloc) {
+        Ok(_) => Ok(()),
+        Err(RollFault::NoMemory) => Err(NoMemory),
+        Err(RollFault::LifeFull(_)) => unreachable!(),
+    }
+}
+
 /// Goes on with an empty book, and adds the line.
 fn roll(alloc: Global, plant: &mut Plant, text: &mut Vec<u8>) -> Result<(), NoMemory>
     requires { LineFits plant.old lines.Roll }
     ensures { OnOk result (Does lines.Roll plant.old plant.new text.old.items text.new.items) }
 {
-    match plant.roll(alloc) {
-        Ok(_) => roll_text(text),
-        Err(RollFault::NoMemory) => Err(NoMemory),
-        Err(RollFault::LifeFull(_)) => unreachable!(),
-    }
+    next_book(alloc, plant)?;
+    roll_text(text)
 }
 
 /// Does a line, and adds its text. Answers the calls of the book where that is full.
