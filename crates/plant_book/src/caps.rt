@@ -101,11 +101,12 @@ fn ceiling_since(book: &Book, mark: Option<CapMark>) -> u64
     ensures { EachBook book.now (λ whole. mark ≡ mark_of whole
         → result ≡ ceilings.ceiling_since whole (last_that rule.sets_cap whole.entries)) }
 {
+    let cap = cap_plain(book);
     match mark {
-        Some(mark) if book.latest() <= mark.at.saturating_add(book.rules().reach()) => cap_plain(
-            book,
-        ).max(mark.was),
-        Some(_) => cap_plain(book),
+        Some(mark) if book.latest() <= mark.at.saturating_add(book.rules().reach()) => {
+            cap.max(mark.was)
+        }
+        Some(_) => cap,
         None => book.site_cap(),
     }
 }

@@ -54,8 +54,8 @@ pub struct Goal {
     pub stop: bool,
 }
 
-/// The ledger of one plant. It keeps the last book of its life, and computes each reply from the whole of it and from
-/// what the books before left.
+/// The ledger of one plant. It keeps the last book of its life, and computes each reply from the whole of it and
+/// from what the books before left.
 #[derive(Debug, Drop)]
 pub struct Plant {
     book: Book,
