@@ -8,3 +8,4 @@ pub mod Written
 pub mod Plays
 pub mod Entering
 pub mod Endings
+pub mod Checking

@@ -8,3 +8,5 @@ pub mod Printing
 pub mod Streams
 pub mod Ends
 pub mod Playing
+pub mod Site
+pub mod Check

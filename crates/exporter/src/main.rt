@@ -4,19 +4,24 @@
 //! the words of the command line, standard input and standard output.
 #![tactic(auto)]
 
+mod adapters;
+mod check;
 mod command_line;
 mod ended;
+mod fault_text;
 mod fields;
 mod input;
 mod judging;
 mod laws;
 mod line;
+mod live_fault;
 mod number;
 mod output;
 mod plain;
 mod playing;
 mod real;
 mod script;
+mod site;
 mod text;
 
 use crate::command_line::words;
