@@ -1,0 +1,4 @@
+pub mod Lines
+pub mod Course
+pub mod Ends
+pub mod Arriving
