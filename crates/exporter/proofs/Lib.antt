@@ -9,3 +9,4 @@ pub mod Plays
 pub mod Entering
 pub mod Endings
 pub mod Checking
+pub mod Tasks

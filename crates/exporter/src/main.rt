@@ -7,13 +7,16 @@
 mod adapters;
 mod check;
 mod command_line;
+mod commission;
 mod ended;
 mod fault_text;
 mod fields;
+mod finding;
 mod input;
 mod judging;
 mod laws;
 mod line;
+mod live;
 mod live_fault;
 mod number;
 mod output;
@@ -21,8 +24,10 @@ mod plain;
 mod playing;
 mod real;
 mod script;
+mod serve;
 mod site;
 mod text;
+mod words;
 
 use crate::command_line::words;
 use crate::ended::{Ended, status};
