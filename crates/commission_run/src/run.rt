@@ -1,5 +1,5 @@
 //! A commissioning from the dial to the hang-up.
-ghost use Rattle.std.specs.Prelude.{◌≡◌, ◌≢◌, ◌≤◌, List, ℕ, IsSome, IsOk, IfErr, IfSome, OnErr, OnOk, Some, None, Err, option_to_list};
+ghost use Rattle.std.specs.Prelude.{◌≡◌, ◌≢◌, ◌<◌, ◌≤◌, List, ℕ, IsSome, IsOk, IfErr, IfSome, OnErr, OnOk, Some, None, Err, option_to_list};
 ghost use Rattle.std.specs.Option.{option_map};
 ghost use Rattle.std.specs.Io.KnownBytes.{Appends};
 ghost use Rattle.world_traits.specs.Causes.{HasCause, Rose};
@@ -9,6 +9,7 @@ ghost use Rattle.mbap_frames.specs.Stream.{frames_spelling};
 ghost use Rattle.commissioning.specs.Stage.{found_at};
 ghost use Rattle.commissioning.specs.Asking.{asked};
 ghost use Rattle.commissioning.specs.Taking.{taken};
+ghost use Rattle.commissioning.specs.Ending.{frames_left};
 ghost use Rattle.commission_run.specs.Lines.{AppendsFront};
 ghost use Rattle.commission_run.specs.Course.{target_of, with_past_link};
 ghost use Rattle.commission_run.specs.Ends.{IsCourse, HasReplies, at_dialer, at_output};
@@ -96,6 +97,7 @@ fn take<N: Dialer, O: Sink>(
 ) -> Result<(), Stop>
     requires { IsSome (asked commission.old) }
     ensures step { commission.new ≡ taken commission.old frame.now }
+    ensures ends { frames_left commission.new < frames_left commission.old }
     ensures handled { IsHandled result commission.old frame.now (N.links dialer.old) (N.links dialer.new)
         (gained_text (found_at commission.old.stage) (found_at commission.new.stage))
         (O.taken out.old) (O.taken out.new) }
