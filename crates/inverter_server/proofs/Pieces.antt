@@ -1,16 +1,15 @@
 -- What a piece of a stream comes to, frame by frame.
-use Rattle.std.proofs.Common.{◌≡◌, ℕ, ◌+◌, ◌-◌, ◌<◌, ◌≤◌, inl, inr, Bool, IsTrue, List, [], ◌∷◌, ◌++◌, length, take, drop, Option, Some, None, refl, sym, ap, subst, ◌∙◌, append_assoc, append-nil, arith}
-use Rattle.std.specs.List.{AllByRecursion}
+use Rattle.std.proofs.Common.{◌≡◌, ℕ, ◌-◌, ◌<◌, ◌⊎◌, inl, inr, Bool, IsTrue, List, [], ◌∷◌, ◌++◌, length, take, drop, Option, refl, sym, ap, subst, ◌∙◌, append_assoc, append-nil, arith}
 use Rattle.std.specs.Option.{option_map}
 use Rattle.std.proofs.lemmas.Bool.{cases_lt}
-use Rattle.std.proofs.lemmas.List.{length-append, length-drop}
+use Rattle.std.proofs.lemmas.List.{length-append, length-drop, take_all}
 use Rattle.world_traits.specs.Causes.{Rose}
 use Rattle.world_traits.specs.Links.{Links, IsCutShort, with_bytes}
 use Rattle.world_traits.proofs.Links.{no_bytes, bytes_bytes}
 use Rattle.mbap_frames.specs.declared.frame.Frame.{Frame}
 use Rattle.mbap_frames.specs.declared.frame.FrameFault.{FrameFault}
 use Rattle.mbap_frames.specs.declared.frames.Got.{Got}
-use Rattle.mbap_frames.specs.declared.frames.Got.TheVariants.{More, One, Bad}
+use Rattle.mbap_frames.specs.declared.frames.Got.TheVariants.{More, One}
 use Rattle.mbap_frames.specs.declared.frames.Fed.{Fed}
 use Rattle.mbap_frames.specs.Frame.{IsFrame, Begins, frame_spelling}
 use Rattle.mbap_frames.specs.Stream.{IsUnfinished, HasFault, frames_spelling}
@@ -19,8 +18,8 @@ use Rattle.mbap_frames.proofs.Headers.{same_front, unfinished_no_frame}
 use Rattle.inverter_sim.specs.Bank.{BankRecord}
 use Rattle.inverter_server.specs.declared.piece.Course.TheVariants as course
 use Rattle.inverter_server.specs.Answers.{Answered, IsAnsweredBy, IsHungUpOn, AreAnswers, asked_bytes, answer_bytes, bank_after_all}
-use Rattle.inverter_server.specs.Serving.{Ending, Open, Refused, Unsent, RoseBy}
-use Rattle.inverter_server.specs.Turns.{State, HandlesFrame, HandlesPiece, IsProgress, IsAnsweredUpTo}
+use Rattle.inverter_server.specs.Serving.{Refused, Unsent, RoseBy}
+use Rattle.inverter_server.specs.Turns.{State, HandlesFrame, HandlesPiece, IsProgress}
 use Rattle.inverter_server.proofs.Answering.{all-append, AreAnswers-append, bank_after_all-append, asked_bytes-append, answer_bytes-append}
 
 -- what a call of `feed` leaves, by its answer
@@ -190,3 +189,35 @@ piece_unsent may_give old mid new stream kept rest after used frame answers so_f
         faults = omega (arith, rose, so_far.faults);
       },
     )
+
+-- the bytes behind those that were used, as the code cuts them off
+pub behind_used : (used : ℕ) (rest : List ℕ) → take (length rest - used) (drop used rest) ≡ drop used rest
+behind_used used rest = take_all (length rest - used) (drop used rest) (omega (arith, length-drop used rest))
+
+-- the turn of the loop at a whole frame, where the link goes on, and where it has come to its end
+pub loop_goes_on : (may_give given : ℕ → Bool) (old mid new : State) (stream kept rest after : List ℕ) (fed : Fed) (frame : Frame) (answers : List Answered)
+    → given ≡ may_give → IsProgress may_give old mid stream (kept ++ rest) answers → IsFed kept rest fed after → fed.got ≡ One frame
+    → new.bank.number ≡ mid.bank.number → HandlesFrame given frame mid new course.GoesOn
+    → (all : List Answered) × IsProgress may_give old new stream (after ++ take (length rest - fed.used) (drop fed.used rest)) all
+loop_goes_on may_give given old mid new stream kept rest after fed frame answers same so_far call is number handled =
+    let one = fed_one kept rest after fed frame call is in
+    let here = subst (λ (m : ℕ → Bool). HandlesFrame m frame mid new course.GoesOn) same handled in
+    let more = more_progress may_give old mid new stream kept rest after fed.used frame answers so_far one number here in
+    (more.0, subst (λ (t : List ℕ). IsProgress may_give old new stream (after ++ t) more.0) (sym (behind_used fed.used rest)) more.1)
+
+pub loop_ends : (may_give given : ℕ → Bool) (old mid new : State) (stream kept rest after : List ℕ) (fed : Fed) (frame : Frame) (answers : List Answered)
+    → given ≡ may_give → IsProgress may_give old mid stream (kept ++ rest) answers → IsFed kept rest fed after → fed.got ≡ One frame
+    → new.bank.number ≡ mid.bank.number → HandlesFrame given frame mid new course.Ends
+    → HandlesPiece may_give stream after old new course.Ends
+loop_ends may_give given old mid new stream kept rest after fed frame answers same so_far call is number (inl refused) =
+    let one = fed_one kept rest after fed frame call is in
+    piece_refused may_give old mid new stream (kept ++ rest) after answers so_far refused.1 (inl (frame, (one.is_frame, drop fed.used rest, one.whole), refused.0))
+loop_ends may_give given old mid new stream kept rest after fed frame answers same so_far call is number (inr unsent) =
+    let one = fed_one kept rest after fed frame call is in
+    let given_here = subst (λ (m : ℕ → Bool). IsTrue (m unsent.0)) same unsent.3 in
+    piece_unsent may_give old mid new stream kept rest after fed.used frame answers so_far one number unsent.0 unsent.1 unsent.2 given_here unsent.4 unsent.5
+
+pub loop_falls : (kept rest after : List ℕ) (fed : Fed) (frame : Frame) → IsUnfinished kept → IsFed kept rest fed after → fed.got ≡ One frame
+    → length (take (length rest - fed.used) (drop fed.used rest)) < length rest
+loop_falls kept rest after fed frame unfinished call is =
+    subst (λ (t : List ℕ). length t < length rest) (sym (behind_used fed.used rest)) (rest_falls kept rest after fed.used frame unfinished (fed_one kept rest after fed frame call is))

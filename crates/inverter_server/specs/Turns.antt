@@ -1,5 +1,5 @@
 -- What a server keeps between two turns, and what one turn does. No promise to a caller names this, but for the state of a device.
-use Rattle.std.specs.Prelude.{◌≡◌, ℕ, ◌+◌, ◌⊎◌, Bool, IsTrue, List, [], ◌∷◌, ◌++◌, length, sum_by, Option, Some, None}
+use Rattle.std.specs.Prelude.{◌≡◌, ℕ, ◌+◌, ◌⊎◌, Bool, IsTrue, List, [], ◌++◌, length, sum_by, Option, Some, None}
 use Rattle.std.specs.List.{AllByRecursion}
 use Rattle.std.specs.Option.{option_map}
 use Rattle.world_traits.specs.Causes.{Rose}
@@ -13,7 +13,7 @@ use Rattle.inverter_sim.specs.Bank.{BankRecord}
 use Rattle.inverter_server.specs.declared.piece.Course.{Course}
 use Rattle.inverter_server.specs.declared.piece.Course.TheVariants as course
 use Rattle.inverter_server.specs.Answers.{Answered, IsAnsweredBy, IsHungUpOn, AreAnswers, asked_bytes, answer_bytes, bank_after_all}
-use Rattle.inverter_server.specs.Serving.{Dial, Ending, Open, Closed, Lost, Visit, AllGoOn, GoesOn, IsOver, IsSent, IsVisit, MayDial, RoseBy, StandsBehind, answers_of, failures_of, failures_on, links_of, turns_of, visits_of}
+use Rattle.inverter_server.specs.Serving.{Dial, Ending, Open, Closed, Lost, Refused, Unsent, Visit, AllGoOn, GoesOn, IsOver, IsSent, IsVisit, MayDial, RoseBy, StandsBehind, answers_of, failures_of, failures_on, links_of, turns_of, visits_of}
 
 -- the bank, the clock, and the greatest of its readings so far, or 0 before the first
 pub record DeviceState (K : Type 0) : Type 0 where
@@ -62,13 +62,19 @@ pub record IsAnsweredUpTo (may_give : ℕ → Bool) (old new : State) (stream be
   pub links : new.links ≡ option_map (with_bytes sent) old.links
   pub faults : RoseBy (failures_on ending) old.faults new.faults
 
+-- the link ended by what the server did: it hung up on what came, or its send failed
+abbrev pub IsOurs : Ending → Type 0
+IsOurs Refused = Unit {0}
+IsOurs Unsent = Unit {0}
+IsOurs _ = ⊥
+
 -- what became of a piece that came behind the bytes that were kept
 abbrev pub HandlesPiece : (ℕ → Bool) → (stream kept : List ℕ) (old new : State) → Course → Type 0
 HandlesPiece may_give stream kept old new course.GoesOn =
     (answers : List Answered) × IsUnfinished kept
     × IsAnsweredUpTo may_give old new stream kept answers Open (answer_bytes answers)
 HandlesPiece may_give stream kept old new course.Ends =
-    (behind : List ℕ) × (answers : List Answered) × (ending : Ending) × (sent : List ℕ) × MayDial ending
+    (behind : List ℕ) × (answers : List Answered) × (ending : Ending) × (sent : List ℕ) × IsOurs ending
     × IsAnsweredUpTo may_give old new stream behind answers ending sent
 
 -- the record behind a receive that came to this
@@ -94,6 +100,7 @@ pub record IsAttended (may_give : ℕ → Bool) (old new : State) (kept behind :
   pub stands : StandsBehind old.bank.number ending behind
   pub answered : CameTo ending came
   pub spelled : IsSent ending answers sent
+  pub unsent : came ≡ links.Failed → sent ≡ []
   pub links : new.links ≡ option_map (λ links. after (with_bytes sent (after_receive came links))) old.links
   pub faults : RoseBy (failures_on ending) old.faults new.faults
 

@@ -7,7 +7,7 @@ use mbap_frames::{Frame, Frames, Got, frame_bytes};
 use world_traits::{Clock, Dialer, SendFailed, send_whole};
 
 /// What becomes of the link that is up.
-#[derive(Clone, Copy, Debug, PartialEq, Eq)]
+#[derive(Clone, Copy, Debug)]
 pub(crate) enum Course {
     /// It goes on.
     GoesOn,
@@ -35,11 +35,10 @@ pub(crate) fn answer_piece<N: Dialer, K: Clock>(
         match fed.got {
             Got::More => return Course::GoesOn,
             Got::Bad(_) => return Course::Ends,
-            Got::One(frame) => {
-                if answer_frame(device, &frame, dialer) == Course::Ends {
-                    return Course::Ends;
-                }
-            }
+            Got::One(frame) => match answer_frame(device, &frame, dialer) {
+                Course::GoesOn => {}
+                Course::Ends => return Course::Ends,
+            },
         }
     }
 }

@@ -31,7 +31,7 @@ pub fn serve<N: Dialer, K: Clock>(
 {
     let mut device = Device::new(bank, clock);
     let mut line = None;
-    for _ in 0..turns {
+    for _made in 0..turns {
         line = turn(&mut device, line, port, wait, dialer);
     }
 }
@@ -51,6 +51,7 @@ fn turn<N: Dialer, K: Clock>(
         (record { bank = device.old.bank; links = N.links dialer.old; faults = N.faults dialer.old }) line
         → Stands start (turns + 1)
         (record { bank = device.new.bank; links = N.links dialer.new; faults = N.faults dialer.new }) result }
+    ensures unfinished { ForSome result IsUnfinished }
     ensures clock { device.new.clock ≡ device.old.clock }
 {
     match line {

@@ -45,6 +45,7 @@ fn receive<N: Dialer, K: Clock>(
     match dialer.recv(&mut buffer) {
         Ok(Received::Bytes(count)) => answer_piece(device, frames, &buffer[..count], dialer),
         Ok(Received::Quiet) => Course::GoesOn,
-        Ok(Received::Closed) | Err(RecvFailed) => Course::Ends,
+        Ok(Received::Closed) => Course::Ends,
+        Err(RecvFailed) => Course::Ends,
     }
 }
