@@ -10,3 +10,5 @@ pub mod Entering
 pub mod Endings
 pub mod Checking
 pub mod Tasks
+pub mod Timers
+pub mod OneTask

@@ -38,7 +38,7 @@ end_of (Err (Refused refusal)) = ends.Refused (fault_of refusal)
 pub record Commissions (job : Job) (outcome : Outcome) (output : Change) (dialing : Dialing) : Type 0 where
   pub dialer_faults : HasCause dialing.faults_old dialing.faults_new (at_dialer outcome)
   pub output_faults : HasCause output.faults_old output.faults_new (at_output outcome)
-  pub no_link : outcome ≡ Err (Refused by.Dial) → (dialing.new ≡ dialing.old) × (output.new ≡ output.old)
+  pub no_link : outcome ≡ Err (Refused by.Dial) → (dialing.new ≡ dialing.old) × GainsNothing output
   pub course : outcome ≢ Err (Refused by.Dial) → (frames : List Frame) × MakesLink (λ link.
       IsCourse (target_of job) job.inverter outcome frames link output.old output.new) dialing
 

@@ -2,7 +2,10 @@
 use Rattle.std.specs.Prelude.{◌≡◌, ℕ, List, [], ◌∷◌, ◌++◌, Option, None}
 use Rattle.std.specs.Option.{option_map}
 use Rattle.world_traits.specs.Causes.{Rose}
-use Rattle.world_traits.specs.Links.{Answer, Link, Links, Receipt}
+use Rattle.world_traits.specs.Links.{Answer, Failed, Link, Links, Receipt, received_bytes}
+use Rattle.mbap_frames.specs.declared.frame.Frame.{Frame}
+use Rattle.mbap_frames.specs.declared.frame.FrameFault.{FrameFault}
+use Rattle.mbap_frames.specs.Stream.{HasFaultBehind}
 use Rattle.commission_run.specs.Course.{with_past_link}
 
 -- what a dialer tells before and after a call: its links, where it does, and its count of faults
@@ -43,3 +46,15 @@ MakesLink IsLink dialing =
 abbrev pub HeardLast : Answer → Link → Type 0
 HeardLast answer link = (before : List Receipt) × (last : Receipt)
     × (link.receipts ≡ before ++ last ∷ []) × (last.answer ≡ answer)
+
+-- a dial failed, and no link was made
+abbrev pub FailsToDial : Dialing → Type 0
+FailsToDial dialing = FaultsAt dialing × (dialing.new ≡ dialing.old)
+
+-- a receive failed, the last of the link
+abbrev pub FailsToReceive : Dialing → Type 0
+FailsToReceive dialing = FaultsAt dialing × MakesLink (HeardLast Failed) dialing
+
+-- the bytes that came over a link have this fault behind the frames at their front
+abbrev pub HasBadFrame : FrameFault → Link → Type 0
+HasBadFrame fault link = (frames : List Frame) × HasFaultBehind (received_bytes link) frames fault

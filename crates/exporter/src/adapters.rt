@@ -11,7 +11,7 @@ pub use boot_clock::BootClock;
 pub use calling::Calling;
 pub use listening::Listening;
 pub use opened::Opened;
-pub use tcp::TcpDialer;
+pub use tcp::{Opener, TcpDialer};
 
 #[cfg(test)]
 mod tests;

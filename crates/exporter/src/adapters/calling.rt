@@ -11,17 +11,15 @@ pub struct Calling<R> {
     rt: R,
 }
 
-impl<R> Calling<R> {
-    pub fn new(rt: R) -> Self {
+impl<R: Net<Stream = TcpStream> + Clock + Copy> Opener for Calling<R> {
+    type Runtime = R;
+
+    fn new(rt: R) -> Self {
         Calling { rt }
     }
-}
-
-impl<R: Net + Clock> Opener for Calling<R> {
-    type Stream = R::Stream;
 
     /// Tries the host's addresses one after the other, and waits `wait` ms for all of them.
-    fn open(&mut self, host: &str, port: u16, wait: u32) -> io::Result<R::Stream> {
+    fn open(&mut self, host: &str, port: u16, wait: u32) -> io::Result<TcpStream> {
         let wait = Duration::from_millis(u64::from(wait));
         let start = Instant::now(&self.rt)?;
         let mut fault = io::Error::from(ErrorKind::AddrNotAvailable);

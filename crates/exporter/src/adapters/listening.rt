@@ -13,12 +13,6 @@ pub struct Listening<R> {
     listener: Option<TcpListener>,
 }
 
-impl<R> Listening<R> {
-    pub fn new(rt: R) -> Self {
-        Listening { rt, listener: None }
-    }
-}
-
 /// Whether the listener stands at an address of the host and this port.
 fn is_at<R: Net>(rt: &R, listener: &TcpListener, host: &str, port: u16) -> io::Result<bool> {
     let own = listener.local_addr()?;
@@ -35,7 +29,7 @@ fn accept_within(listener: &TcpListener, wait: Duration) -> io::Result<TcpStream
     Ok(stream)
 }
 
-impl<R: Net<Listener = TcpListener, Stream = TcpStream> + Clock> Listening<R> {
+impl<R: Net<Listener = TcpListener, Stream = TcpStream>> Listening<R> {
     /// A listener at the host and port: the one that stands there, or a new one.
     fn listen(&mut self, host: &str, port: u16) -> io::Result<TcpListener> {
         if let Some(listener) = self.listener.take() {
@@ -47,8 +41,12 @@ impl<R: Net<Listener = TcpListener, Stream = TcpStream> + Clock> Listening<R> {
     }
 }
 
-impl<R: Net<Listener = TcpListener, Stream = TcpStream> + Clock> Opener for Listening<R> {
-    type Stream = TcpStream;
+impl<R: Net<Listener = TcpListener, Stream = TcpStream> + Clock + Copy> Opener for Listening<R> {
+    type Runtime = R;
+
+    fn new(rt: R) -> Self {
+        Listening { rt, listener: None }
+    }
 
     /// Where the host isn't of this machine, or its port is another's, nobody can come: the wait is over all the same.
     fn open(&mut self, host: &str, port: u16, wait: u32) -> io::Result<TcpStream> {

@@ -1,55 +1,72 @@
-ghost use Rattle.std.specs.Prelude.{◌<◌, None, IfOk, length};
+ghost use Rattle.std.specs.Prelude.{◌≡◌, ◌<◌, None, IfOk, length};
 ghost use Rattle.std.specs.Io.{WritesAtMost};
 ghost use Rattle.world_traits.specs.Links.{FitsInto};
 
+use std::alloc::{AllocError, Global};
 use std::io;
 use std::io::{ErrorKind, Read, Write};
-use std::net::OpenStream;
+use std::net::TcpStream;
 use std::time::Duration;
 use world_traits::{DialFailed, Dialer, Received, RecvFailed, SendFailed};
 
 /// How a TCP connection comes about.
-pub trait Opener {
-    type Stream: Read + Write + OpenStream + Drop;
+pub trait Opener: Drop {
+    /// What the system is asked by.
+    type Runtime: Copy;
 
-    /// A new connection to or at a host's port, within `wait` ms.
-    fn open(&mut self, host: &str, port: u16, wait: u32) -> io::Result<Self::Stream>;
+    /// An opener that has opened nothing yet.
+    fn new(rt: Self::Runtime) -> Self;
+
+    /// A new connection to a host's port, or at it, within `wait` ms.
+    fn open(&mut self, host: &str, port: u16, wait: u32) -> io::Result<TcpStream>;
 }
 
 /// TCP connections, one at a time, as links. It counts its faults, and tells nothing of its links.
 #[derive(Drop)]
-pub struct TcpDialer<C: Opener> {
+pub struct TcpDialer<C> {
     opener: C,
-    stream: Option<C::Stream>,
+    stream: Option<TcpStream>,
     faults: u64,
 }
 
 impl<C: Opener> TcpDialer<C> {
-    pub fn new(opener: C) -> Self {
+    /// A dialer without a link.
+    pub fn new(rt: C::Runtime) -> Self {
         TcpDialer {
-            opener,
+            opener: C::new(rt),
             stream: None,
             faults: 0,
         }
     }
+
+    /// So many dialers without a link.
+    pub fn many(alloc: Global, rt: C::Runtime, count: usize) -> Result<Vec<Self>, AllocError>
+        ensures { IfOk result (λ dialers. length dialers.items ≡ count) }
+    {
+        let mut dialers = Vec::new(alloc);
+        for _ in 0..count {
+            dialers.push(TcpDialer::new(rt))?;
+        }
+        Ok(dialers)
+    }
 }
 
 /// Sends small pieces at once, and waits for nothing longer than `wait` ms.
-fn set_up<S: OpenStream>(stream: &S, wait: u32) -> io::Result<()> {
+fn set_up(stream: &TcpStream, wait: u32) -> io::Result<()> {
     let wait = Some(Duration::from_millis(u64::from(wait)));
     stream.set_nodelay(true)?;
     stream.set_read_timeout(wait)?;
     stream.set_write_timeout(wait)
 }
 
-fn open<C: Opener>(opener: &mut C, host: &str, port: u16, wait: u32) -> io::Result<C::Stream> {
+fn open<C: Opener>(opener: &mut C, host: &str, port: u16, wait: u32) -> io::Result<TcpStream> {
     let stream = opener.open(host, port, wait)?;
     set_up(&stream, wait)?;
     Ok(stream)
 }
 
 /// Sends the first of the bytes on the connection, where there is one.
-fn transmit<S: Write>(stream: &mut Option<S>, bytes: &[u8]) -> Result<usize, SendFailed>
+fn transmit(stream: &mut Option<TcpStream>, bytes: &[u8]) -> Result<usize, SendFailed>
     ensures bound { WritesAtMost result bytes.now }
     ensures some { IfOk result (λ count. 0 < length bytes.now → 0 < count) }
 {
@@ -63,7 +80,7 @@ fn transmit<S: Write>(stream: &mut Option<S>, bytes: &[u8]) -> Result<usize, Sen
 }
 
 /// Receives from the connection, where there is one. A read that waited for nothing says that it would go on waiting.
-fn receive<S: Read>(stream: &mut Option<S>, into: &mut [u8]) -> Result<Received, RecvFailed>
+fn receive(stream: &mut Option<TcpStream>, into: &mut [u8]) -> Result<Received, RecvFailed>
     ensures { IfOk result (FitsInto into.new) }
 {
     let Some(stream) = stream else {

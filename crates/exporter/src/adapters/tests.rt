@@ -51,7 +51,7 @@ fn talks<N: Dialer>(rt: &impl Abort, dialer: &mut N, mut peer: TcpStream) -> Res
 fn a_link_to_a_host_over_tcp(rt: HostRuntime) -> Result<(), Fail> {
     let listener = TcpListener::bind(&rt, "127.0.0.1:0")?;
     let port = listener.local_addr()?.port();
-    let mut dialer = TcpDialer::new(Calling::new(rt));
+    let mut dialer = TcpDialer::<Calling<HostRuntime>>::new(rt);
     sent(&dialer);
     assert_eq!(rt; dial(&mut dialer, "localhost", port, 200), Ok(()));
     let (peer, _) = listener.accept()?;
@@ -64,7 +64,7 @@ fn a_link_to_a_host_over_tcp(rt: HostRuntime) -> Result<(), Fail> {
 #[test]
 fn a_link_to_whoever_comes_over_tcp(rt: HostRuntime) -> Result<(), Fail> {
     let port = free_port(&rt)?;
-    let mut dialer = TcpDialer::new(Listening::new(rt));
+    let mut dialer = TcpDialer::<Listening<HostRuntime>>::new(rt);
     sent(&dialer);
     assert_eq!(rt; dial(&mut dialer, "127.0.0.1", port, 10), Err(DialFailed));
     for _ in 0..2 {
