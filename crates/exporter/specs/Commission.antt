@@ -41,7 +41,6 @@ pub record Commissions (job : Job) (outcome : Outcome) (output : Change) (dialin
   pub no_link : outcome ≡ Err (Refused by.Dial) → (dialing.new ≡ dialing.old) × GainsNothing output
   pub course : outcome ≢ Err (Refused by.Dial) → (frames : List Frame) × MakesLink (λ link.
       IsCourse (target_of job) job.inverter outcome frames link output.old output.new) dialing
-
   -- where no call failed and the replies of an inverter that is commissioned came, it is done
   pub complete : (before : Links) (link : Link) → dialing.old ≡ Some before → dialing.new ≡ Some (with_past_link link before)
       → HasReplies (target_of job) link → (FaultsAt dialing → ⊥) → (Fails output → ⊥) → IsOk outcome
@@ -49,6 +48,6 @@ pub record Commissions (job : Job) (outcome : Outcome) (output : Change) (dialin
 -- the ends of `commission` for the inverter of this number, each with what it says of the bytes that were read
 pub data IsCommissionEnd (number : ℕ) (read : List ℕ) (site output : Change) (dialing : Dialing) (ended : Ended) : Type 0 where
   not_begun : FindsNoInverter number read site ended → GainsNothing output → DialsNothing dialing
-    → IsCommissionEnd number read site output dialing ended
+      → IsCommissionEnd number read site output dialing ended
   begun : (job : Job) (outcome : Outcome) → FindsInverter number job read site → Commissions job outcome output dialing
-    → ended ≡ end_of outcome → IsCommissionEnd number read site output dialing ended
+      → ended ≡ end_of outcome → IsCommissionEnd number read site output dialing ended

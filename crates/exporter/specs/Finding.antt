@@ -28,4 +28,4 @@ pub record FindsInverter (number : ℕ) (job : Job) (read : List ℕ) (site : Ch
 pub data FindsNoInverter (number : ℕ) (read : List ℕ) (site : Change) (ended : Ended) : Type 0 where
   no_site : FindsNoSite ended read site → FindsNoInverter number read site ended
   no_inverter : (file : SiteFileRecord) → ReadsSite file read site → inverters file.site ≤ number
-    → ended ≡ ends.Refused (faults.NoSuchInverter (inverters file.site)) → FindsNoInverter number read site ended
+      → ended ≡ ends.Refused (faults.NoSuchInverter (inverters file.site)) → FindsNoInverter number read site ended

@@ -40,11 +40,7 @@ fn job_of(file: SiteFile, inverter: u8) -> Result<Job, u32>
 }
 
 /// Reads the site file to its end, and finds the inverter of this number in it; or tells how the command ends.
-pub fn find_inverter<S: Source>(
-    alloc: Global,
-    site: &mut S,
-    inverter: u8,
-) -> Result<Job, Ended>
+pub fn find_inverter<S: Source>(alloc: Global, site: &mut S, inverter: u8) -> Result<Job, Ended>
     ensures later { S.faults site.old ≤ S.faults site.new }
     ensures found { IfOk result (λ job.
         (read : List ℕ) × FindsInverter inverter job read (change S.left S.faults site.old site.new)) }

@@ -1,24 +1,21 @@
-ghost use Rattle.std.specs.Prelude.{◌≡◌, ◌↔◌, ◌⊎◌, ◌<◌, ◌≤◌, ℕ, List, IfSome, Some, drop, length, map};
+ghost use Rattle.std.specs.Prelude.{◌≡◌, ◌↔◌, ◌⊎◌, ◌<◌, ◌≤◌, ℕ, List, IfSome, drop, length, map};
 ghost use Rattle.std.specs.String.{string_bytes};
 ghost use Rattle.std.specs.Io.KnownBytes.{IsAtEnd};
 ghost use Rattle.world_traits.specs.Causes.{Rose};
-ghost use Rattle.world_traits.specs.Links.{Closed, Failed, Link, Links, Quiet, received_bytes};
-ghost use Rattle.mbap_frames.specs.declared.frame.Frame.{Frame};
+ghost use Rattle.world_traits.specs.Links.{Closed, Quiet};
 ghost use Rattle.mbap_frames.specs.declared.frame.FrameFault.{FrameFault};
-ghost use Rattle.mbap_frames.specs.Stream.{HasFaultBehind};
 ghost use Rattle.plant_book.specs.Site.{inverters};
 ghost use Rattle.site_config.specs.declared.fault.SiteFault.{SiteFault};
 ghost use Rattle.site_config.specs.SiteFile.{SiteFileRecord, IsSiteFile, IsRefused};
 ghost use Rattle.commissioning.specs.declared.fault.CommissionFault.{CommissionFault};
 ghost use Rattle.commission_run.specs.declared.job.Job.{Job};
-ghost use Rattle.commission_run.specs.Course.{AreFirst, target_of, with_past_link};
-ghost use Rattle.commission_run.specs.Ends.{HasReplies, TakesFault};
-ghost use Rattle.exporter.specs.Streams.{change};
+ghost use Rattle.exporter.specs.Streams.{change, GainsNothing};
 ghost use Rattle.exporter.specs.Site.{site_limit};
 ghost use Rattle.exporter.specs.Words.{Ask};
-ghost use Rattle.exporter.specs.Dialing.{DialsNothing, FaultsAt, HeardLast, MakesLink, dialing, first_dialing};
-ghost use Rattle.exporter.specs.Finding.{FindsInverter, IsJob};
-ghost use Rattle.exporter.specs.Live.{IsTaskEnd, inverter_of};
+ghost use Rattle.exporter.specs.Dialing.{DialsNothing, FailsToDial, FailsToReceive, FaultsAt, HasBadFrame, HeardLast};
+ghost use Rattle.exporter.specs.Dialing.{MakesLink, dialing, first_dialing};
+ghost use Rattle.exporter.specs.Finding.{IsJob};
+ghost use Rattle.exporter.specs.Live.{HasInverter, HearsReplies, IsRefusedBy, IsTaskEnd, LacksInverter, inverter_of};
 
 use crate::commission::commission;
 use crate::ended::Ended;
@@ -96,6 +93,63 @@ pub fn live<S: Source, C: Source + Send, O: Sink + Send, N: Dialer + Send, K: Cl
         → (read : List ℕ) × IsTaskEnd (K.may_give clock.now) task read
         (change S.left S.faults site.old site.new) (change O.taken O.faults out.old out.new)
         (first_dialing N.links N.faults dialers.old.items dialers.new.items) result }
+
+    // The causes of the ends that the site file has, by the bytes that its source tells.
+    ensures read { result ≡ Ended.Done → IsAtEnd (S.left site.new) }
+    ensures bad_site { (fault : SiteFault) → result ≡ Ended.BadSite fault
+        → IfSome (S.left site.old) (λ bytes. IsRefused bytes fault) }
+    ensures too_long { (limit : ℕ) → result ≡ Ended.TooLong limit
+        → (limit ≡ site_limit) × IfSome (S.left site.old) (λ bytes. limit < length bytes) }
+    ensures read_fault { result ≡ Ended.ReadFault → Rose (S.faults site.old) (S.faults site.new) }
+    ensures no_such_inverter { (task : Task) (count : ℕ) → Ask (map string_bytes words.now.items) task
+        → result ≡ Ended.Refused (LiveFault.NoSuchInverter count)
+        → IfSome (S.left site.old) (LacksInverter task count)
+        × DialsNothing (first_dialing N.links N.faults dialers.old.items dialers.new.items)
+        × GainsNothing (change O.taken O.faults out.old out.new) }
+
+    // The causes of the ends that the output and the first dialer have.
+    ensures write_fault { result ≡ Ended.WriteFault → Rose (O.faults out.old) (O.faults out.new) }
+    ensures dial { result ≡ Ended.Refused LiveFault.Dial → FailsToDial
+        (first_dialing N.links N.faults dialers.old.items dialers.new.items) }
+    ensures send { result ≡ Ended.Refused LiveFault.Send → FaultsAt
+        (first_dialing N.links N.faults dialers.old.items dialers.new.items) }
+    ensures recv { result ≡ Ended.Refused LiveFault.Recv → FailsToReceive
+        (first_dialing N.links N.faults dialers.old.items dialers.new.items) }
+    ensures quiet { result ≡ Ended.Refused LiveFault.Quiet → MakesLink (HeardLast Quiet)
+        (first_dialing N.links N.faults dialers.old.items dialers.new.items) }
+    ensures closed { result ≡ Ended.Refused LiveFault.Closed → MakesLink (HeardLast Closed)
+        (first_dialing N.links N.faults dialers.old.items dialers.new.items) }
+    ensures bad_frame { (fault : FrameFault) → result ≡ Ended.Refused (LiveFault.BadFrame fault)
+        → MakesLink (HasBadFrame fault)
+        (first_dialing N.links N.faults dialers.old.items dialers.new.items) }
+    ensures commission_fault { (task : Task) (fault : CommissionFault) → Ask (map string_bytes words.now.items) task
+        → result ≡ Ended.Refused (LiveFault.Commission fault)
+        → (job : Job) × IfSome (S.left site.old) (HasInverter task job) × MakesLink (IsRefusedBy job fault)
+        (first_dialing N.links N.faults dialers.old.items dialers.new.items) }
+
+    // A site file that has the inverter, and no rise of a count of faults: `serve` is done. So is `commission` where
+    // the bytes that came are the replies of an inverter that is commissioned.
+    ensures serve_complete { (inverter turns : ℕ) → Ask (map string_bytes words.now.items) (Task.Serve inverter turns)
+        → IfSome (S.left site.old) (λ bytes. length bytes ≤ site_limit
+        → (file : SiteFileRecord) → IsSiteFile bytes file → inverter < inverters file.site
+        → (Rose (S.faults site.old) (S.faults site.new) → ⊥)
+        → (result ≡ Ended.Done) ⊎ (result ≡ Ended.NoMemory)) }
+    ensures commission_complete { (inverter : ℕ) → Ask (map string_bytes words.now.items) (Task.Commission inverter)
+        → IfSome (S.left site.old) (λ bytes. length bytes ≤ site_limit
+        → (file : SiteFileRecord) → IsSiteFile bytes file → (job : Job) → IsJob file inverter job
+        → HearsReplies job (first_dialing N.links N.faults dialers.old.items dialers.new.items)
+        → (Rose (S.faults site.old) (S.faults site.new) → ⊥)
+        → (Rose (O.faults out.old) (O.faults out.new) → ⊥)
+        → (FaultsAt (first_dialing N.links N.faults dialers.old.items dialers.new.items) → ⊥)
+        → (result ≡ Ended.Done) ⊎ (result ≡ Ended.NoMemory)) }
+
+    // A site file that lacks the inverter is refused.
+    ensures lacking { (task : Task) → Ask (map string_bytes words.now.items) task
+        → IfSome (S.left site.old) (λ bytes. length bytes ≤ site_limit
+        → (file : SiteFileRecord) → IsSiteFile bytes file → inverters file.site ≤ inverter_of task
+        → (Rose (S.faults site.old) (S.faults site.new) → ⊥)
+        → (result ≡ Ended.Refused (LiveFault.NoSuchInverter (inverters file.site)))
+        ⊎ (result ≡ Ended.NoMemory)) }
 {
     let _ = console;
     one_meaning();

@@ -16,14 +16,9 @@ const TURNS_MAX: u32 = 1_000_000;
 #[derive(Clone, Copy, Debug, PartialEq, Eq)]
 pub enum Task {
     /// Commissions the inverter of this number.
-    Commission {
-        inverter: u8,
-    },
+    Commission { inverter: u8 },
     /// Serves a simulation of the inverter of this number, for so many turns.
-    Serve {
-        inverter: u8,
-        turns: u32,
-    },
+    Serve { inverter: u8, turns: u32 },
 }
 
 /// The number that a word is: decimal, without a sign or a leading zero.

@@ -15,6 +15,6 @@ pub returns-in-Err-job_of-clause-none : goal.returns-in-Err-job_of-clause-none
 returns-in-Err-job_of-clause-none g c = (
   c.in-Ok.ensures.file.0,
   no_inverter c.in-Ok.file c.in-Ok.ensures.file.1
-  (subst (λ (count : ℕ). count ≤ c.args.inverter) c.in-Err-job_of.ensures.count.0 c.in-Err-job_of.ensures.count.1)
-  (ap (λ (count : ℕ). ends.Refused (faults.NoSuchInverter count)) c.in-Err-job_of.ensures.count.0),
+      (subst (λ (count : ℕ). count ≤ c.args.inverter) c.in-Err-job_of.ensures.count.0 c.in-Err-job_of.ensures.count.1)
+      (ap (λ (count : ℕ). ends.Refused (faults.NoSuchInverter count)) c.in-Err-job_of.ensures.count.0),
 )
