@@ -1,12 +1,9 @@
 -- What the end of a task says, by what the end is.
-use Rattle.std.proofs.Common.{◌≡◌, ◌≢◌, ℕ, ◌<◌, ◌≤◌, ◌⊎◌, inl, inr, Bool, map, List, [], ◌∷◌, ◌++◌, length, Option, Some, None, Result, Ok, Err, refl, sym, ap, subst, ◌∙◌, arith}
+use Rattle.std.proofs.Common.{◌≡◌, ◌≢◌, ℕ, ◌<◌, ◌≤◌, ◌⊎◌, inl, inr, Bool, map, List, [], ◌∷◌, ◌++◌, length, Option, Some, Ok, Err, refl, sym, ap, subst, ◌∙◌, arith}
 use Rattle.std.specs.Prelude.{IfSome, IsOk}
 use Rattle.std.specs.Io.KnownBytes.{IsAtEnd}
-use Rattle.world_traits.specs.Causes.{Rose}
-use Rattle.world_traits.specs.Links.{Answer, Bytes, Quiet, Closed, Failed, Link, Links, Receipt, received_bytes}
-use Rattle.mbap_frames.specs.declared.frame.Frame.{Frame}
+use Rattle.world_traits.specs.Links.{Answer, Bytes, Quiet, Closed, Failed, Link, Receipt}
 use Rattle.mbap_frames.specs.declared.frame.FrameFault.{FrameFault}
-use Rattle.mbap_frames.specs.Stream.{HasFaultBehind}
 use Rattle.plant_book.specs.Site.{inverters}
 use Rattle.site_config.specs.declared.fault.SiteFault.{SiteFault}
 use Rattle.site_config.specs.SiteFile.{SiteFileRecord, IsSiteFile, IsRefused}
@@ -16,8 +13,8 @@ use Rattle.commission_run.specs.declared.job.Job.{Job}
 use Rattle.commission_run.specs.declared.stop.Stop.TheVariants.{WriteFailed, Refused}
 use Rattle.commission_run.specs.declared.stop.Refusal.{Refusal}
 use Rattle.commission_run.specs.declared.stop.Refusal.TheVariants as by
-use Rattle.commission_run.specs.Course.{AreFirst, target_of, with_past_link}
-use Rattle.commission_run.specs.Ends.{Outcome, IsCourse, HasReplies, TakesFault}
+use Rattle.commission_run.specs.Course.{target_of}
+use Rattle.commission_run.specs.Ends.{Outcome, HasReplies}
 use Rattle.exporter.specs.declared.ended.Ended.{Ended}
 use Rattle.exporter.specs.declared.ended.Ended.TheVariants as ends
 use Rattle.exporter.specs.declared.live_fault.LiveFault.{LiveFault}
@@ -26,7 +23,7 @@ use Rattle.exporter.specs.declared.words.Task.{Task}
 use Rattle.exporter.specs.declared.words.Task.TheVariants as tasks
 use Rattle.exporter.specs.Streams.{Change, Fails, GainsNothing}
 use Rattle.exporter.specs.Ends.{status_of}
-use Rattle.exporter.specs.Site.{site_limit, ReadsSite, FindsNoSite}
+use Rattle.exporter.specs.Site.{site_limit, FindsNoSite}
 use Rattle.exporter.specs.Dialing.{Dialing, DialsNothing, FaultsAt, FailsToDial, FailsToReceive, HasBadFrame, HeardLast, MakesLink}
 use Rattle.exporter.specs.Finding.{FindsInverter, FindsNoInverter, IsJob, no_site, no_inverter}
 use Rattle.exporter.specs.Commission as commission

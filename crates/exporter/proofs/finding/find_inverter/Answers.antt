@@ -1,5 +1,4 @@
-use Rattle.std.proofs.Common.{ℕ, ◌≤◌, ap, arith, subst, sym}
-use Rattle.plant_book.specs.Site.{inverters}
+use Rattle.std.proofs.Common.{ℕ, ◌≤◌, ap, subst}
 use Rattle.exporter.specs.declared.ended.Ended.TheVariants as ends
 use Rattle.exporter.specs.declared.live_fault.LiveFault.TheVariants as faults
 use Rattle.exporter.specs.Finding.{no_inverter}

@@ -1,9 +1,9 @@
-use Rattle.std.proofs.Common.{ℕ, map, List, subst}
+use Rattle.std.proofs.Common.{map, subst}
 use Rattle.std.specs.String.{string_bytes}
 use Rattle.exporter.specs.declared.words.Task.{Task}
 use Rattle.exporter.specs.declared.words.Task.TheVariants as tasks
-use Rattle.exporter.specs.Streams.{change, Change}
-use Rattle.exporter.specs.Dialing.{first_dialing, Dialing}
+use Rattle.exporter.specs.Streams.{change}
+use Rattle.exporter.specs.Dialing.{first_dialing}
 use Rattle.exporter.specs.Live.{IsTaskEnd}
 use Rattle.exporter.proofs.OneTask.{one_task}
 use Rattle.exporter.proofs.Tasks as said
