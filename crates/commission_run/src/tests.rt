@@ -9,8 +9,8 @@ use plant_book::{Port, Unit};
 use std::alloc::{AllocError, Global};
 use std::test::Fail;
 use world_traits::{
-    BytesSink, DialFailed, Dialer, Move, PlayDialer, PlayLink, Received, RecvFailed, SendFailed,
-    Sink,
+    BytesSink, DialFailed, Dialer, Link, Move, PlayDialer, PlayLink, Received, RecvFailed,
+    SendFailed, Sink,
 };
 
 /// Commissions an inverter with a floor of 10 percent at unit 1, under timers of a minute.
@@ -113,13 +113,17 @@ fn replies(alloc: Global, last: u8) -> Result<Vec<Move>, AllocError> {
 /// How a run ended, how many bytes were sent, how many receives were answered, and how many bytes were written.
 type Seen = (Result<(), Stop>, usize, usize, usize);
 
-/// What comes of a run over a link that takes so many bytes and plays these moves, where these calls of the dialer and
-/// these writes fail.
-fn seen(alloc: Global, link: PlayLink, failing: &[u32], unwritten: &[u32]) -> Result<Seen, Fail> {
-    let links = vec![in alloc; link]?;
-    let mut dialer = PlayDialer::new(alloc, links, Vec::from_slice(alloc, failing)?);
-    let mut out = BytesSink::new(alloc, Vec::from_slice(alloc, unwritten)?);
-    let outcome = commissioned(6000, &mut dialer, &mut out)?;
+/// What comes of a run over a link, where these calls of the dialer and these writes fail.
+fn seen_of(
+    alloc: Global,
+    wmax: u16,
+    link: PlayLink,
+    failing: Vec<u32>,
+    unwritten: Vec<u32>,
+) -> Result<Seen, Fail> {
+    let mut dialer = PlayDialer::new(alloc, vec![in alloc; link]?, failing);
+    let mut out = BytesSink::new(alloc, unwritten);
+    let outcome = commissioned(wmax, &mut dialer, &mut out)?;
     let (sent, receives) = match dialer.log().link(0) {
         Some(link) => (link.sent().len(), link.answers()),
         None => (0, 0),
@@ -127,12 +131,13 @@ fn seen(alloc: Global, link: PlayLink, failing: &[u32], unwritten: &[u32]) -> Re
     Ok((outcome, sent, receives, out.taken().len()))
 }
 
-/// A link that takes all and plays these moves.
-fn link_of(moves: Vec<Move>) -> PlayLink {
-    PlayLink {
+/// What comes of a run over a link that takes all and plays these moves.
+fn seen(alloc: Global, moves: Vec<Move>) -> Result<Seen, Fail> {
+    let link = PlayLink {
         takes: 1_000,
         moves,
-    }
+    };
+    seen_of(alloc, 6000, link, Vec::new(alloc), Vec::new(alloc))
 }
 
 /// An end by a refusal.
@@ -140,53 +145,56 @@ fn refused(refusal: Refusal) -> Result<(), Stop> {
     Err(Stop::Refused(refusal))
 }
 
-const FOUND: &str = "found base 40296 wmax 6000 wsf 0 psf -1\n";
-
-const DONE: &str = "found base 40296 wmax 6000 wsf 0 psf -1\ncommissioned 0\n";
-
-#[test]
-fn eleven_requests_commission_an_inverter(rt: HostRuntime) -> Result<(), Fail> {
-    let alloc = rt.alloc();
-    let links = vec![in alloc; link_of(replies(alloc, 11)?)]?;
-    let mut dialer = PlayDialer::new(alloc, links, Vec::new(alloc));
-    let mut out = BytesSink::new(alloc, Vec::new(alloc));
-    assert_eq!(rt; commissioned(6000, &mut dialer, &mut out)?, Ok(()));
-    assert_eq!(rt; out.taken(), DONE.as_bytes());
-    assert_eq!(rt; dialer.log().count(), 1);
-    assert!(rt; !dialer.log().is_up());
-    let link = dialer.log().link(0).ok_or("a link")?;
-    assert_eq!(rt;
-        (link.host(), link.port(), link.answers()),
-        ("plant", 5_020, 11)
-    );
+/// Whether a link is that of a whole commissioning.
+fn is_whole(link: &Link) -> bool {
     let first = [0, 1, 0, 0, 0, 6, 1, 3, 0x9C, 0x40, 0, 2];
-    assert!(rt; link.sent().starts_with(&first));
     let last_two = [
         0, 10, 0, 0, 0, 19, 1, 16, 0x9D, 0x76, 0, 6, 12, 0, 1, 0, 0x64, 0, 0x64, 0, 1, 0, 0, 0,
         0x3C, 0, 11, 0, 0, 0, 6, 1, 3, 0x9D, 0x76, 0, 8,
     ];
-    assert!(rt; link.sent().ends_with(&last_two));
-    assert_eq!(rt; link.sent().len(), 145);
+    link.host() == "plant"
+        && link.port() == 5_020
+        && link.answers() == 11
+        && link.sent().len() == 145
+        && link.sent().starts_with(&first)
+        && link.sent().ends_with(&last_two)
+}
+
+/// What a whole commissioning writes.
+const WRITTEN: &str = "found base 40296 wmax 6000 wsf 0 psf -1\ncommissioned 0\n";
+
+#[test]
+fn eleven_requests_commission_an_inverter(rt: HostRuntime) -> Result<(), Fail> {
+    let alloc = rt.alloc();
+    let moves = replies(alloc, 11)?;
+    let link = PlayLink {
+        takes: 1_000,
+        moves,
+    };
+    let mut dialer = PlayDialer::new(alloc, vec![in alloc; link]?, Vec::new(alloc));
+    let mut out = BytesSink::new(alloc, Vec::new(alloc));
+    let outcome = commissioned(6000, &mut dialer, &mut out)?;
+    assert!(rt; outcome.is_ok() && out.taken() == WRITTEN.as_bytes());
+    let log = dialer.log();
+    assert!(rt; log.count() == 1 && !log.is_up() && is_whole(log.link(0).ok_or("a link")?));
     Ok(())
 }
 
 #[test]
 fn an_inverter_that_is_not_as_the_site_file_has_it(rt: HostRuntime) -> Result<(), Fail> {
     let alloc = rt.alloc();
-    let links = vec![in alloc; link_of(replies(alloc, 11)?)]?;
-    let mut dialer = PlayDialer::new(alloc, links, Vec::new(alloc));
-    let mut out = BytesSink::new(alloc, Vec::new(alloc));
     let unfit = CommissionFault::Unfit {
         point: Point::WMax,
         wanted: 5000,
         found: 6000,
     };
-    let outcome = commissioned(5000, &mut dialer, &mut out)?;
-    assert_eq!(rt; outcome, refused(Refusal::Commission(unfit)));
-    assert_eq!(rt; out.taken(), FOUND.as_bytes());
-    let link = dialer.log().link(0).ok_or("a link")?;
-    assert_eq!(rt; (link.sent().len(), link.answers()), (108, 9));
-    assert!(rt; !dialer.log().is_up());
+    let moves = replies(alloc, 11)?;
+    let link = PlayLink {
+        takes: 1_000,
+        moves,
+    };
+    let came = seen_of(alloc, 5000, link, Vec::new(alloc), Vec::new(alloc))?;
+    assert_eq!(rt; came, (refused(Refusal::Commission(unfit)), 108, 9, 40));
     Ok(())
 }
 
@@ -194,17 +202,8 @@ fn an_inverter_that_is_not_as_the_site_file_has_it(rt: HostRuntime) -> Result<()
 fn a_peer_that_does_not_answer(rt: HostRuntime) -> Result<(), Fail> {
     let alloc = rt.alloc();
     let quiet = refused(Refusal::Quiet);
-    for (last, came) in [(0, (quiet, 12, 1, 0)), (1, (quiet, 24, 2, 0))] {
-        assert_eq!(rt;
-            seen(alloc, link_of(replies(alloc, last)?), &[], &[])?,
-            came
-        );
-    }
-    let closed = link_of(vec![in alloc; Move::Closed]?);
-    assert_eq!(rt;
-        seen(alloc, closed, &[], &[])?,
-        (refused(Refusal::Closed), 12, 1, 0)
-    );
+    assert_eq!(rt; seen(alloc, Vec::new(alloc))?, (quiet, 12, 1, 0));
+    assert_eq!(rt; seen(alloc, replies(alloc, 1)?)?, (quiet, 24, 2, 0));
     Ok(())
 }
 
@@ -218,7 +217,7 @@ fn a_frame_that_is_cut_at_each_byte(rt: HostRuntime) -> Result<(), Fail> {
         let front = Vec::from_slice(alloc, &MARK[..cut])?;
         let rest = Vec::from_slice(alloc, &MARK[cut..])?;
         let moves = vec![in alloc; Move::Bytes(front), Move::Bytes(rest), Move::Closed]?;
-        let came = seen(alloc, link_of(moves), &[], &[])?;
+        let came = seen(alloc, moves)?;
         assert_eq!(rt; came, (refused(Refusal::Closed), 24, 3, 0));
     }
     Ok(())
@@ -253,7 +252,7 @@ fn frames_that_come_at_once(rt: HostRuntime) -> Result<(), Fail> {
     for (bytes, came) in cases {
         let piece = Move::Bytes(Vec::from_slice(alloc, bytes)?);
         let moves = vec![in alloc; piece, Move::Closed]?;
-        assert_eq!(rt; seen(alloc, link_of(moves), &[], &[])?, came);
+        assert_eq!(rt; seen(alloc, moves)?, came);
     }
     Ok(())
 }
@@ -267,36 +266,48 @@ fn replies_that_come_before_their_requests(rt: HostRuntime) -> Result<(), Fail> 
     }
     // A receive gives 260 bytes of the 348.
     let moves = vec![in alloc; Move::Bytes(bytes)]?;
-    assert_eq!(rt;
-        seen(alloc, link_of(moves), &[], &[])?,
-        (Ok(()), 145, 2, 55)
-    );
+    assert_eq!(rt; seen(alloc, moves)?, (Ok(()), 145, 2, 55));
     Ok(())
 }
 
 #[test]
-fn each_call_that_fails(rt: HostRuntime) -> Result<(), Fail> {
+fn each_call_of_the_dialer_that_fails(rt: HostRuntime) -> Result<(), Fail> {
     let alloc = rt.alloc();
-    let cases: [(&[u32], &[u32], Seen); 6] = [
-        (&[0], &[], (refused(Refusal::Dial), 0, 0, 0)),
-        (&[1], &[], (refused(Refusal::Send), 0, 0, 0)),
-        (&[2], &[], (refused(Refusal::Recv), 12, 0, 0)),
-        (&[19], &[], (refused(Refusal::Send), 108, 9, 40)),
-        (&[], &[0], (Err(Stop::WriteFailed), 108, 9, 0)),
-        (&[], &[1], (Err(Stop::WriteFailed), 145, 11, 40)),
+    let cases: [(u32, u32, Seen); 5] = [
+        (0, 1_000, (refused(Refusal::Dial), 0, 0, 0)),
+        (1, 1_000, (refused(Refusal::Send), 0, 0, 0)),
+        (2, 1_000, (refused(Refusal::Recv), 12, 0, 0)),
+        (19, 1_000, (refused(Refusal::Send), 108, 9, 40)),
+        (99, 17, (refused(Refusal::Send), 17, 1, 0)),
     ];
-    for (failing, unwritten, came) in cases {
-        let link = link_of(replies(alloc, 11)?);
-        assert_eq!(rt; seen(alloc, link, failing, unwritten)?, came);
+    for (failing, takes, came) in cases {
+        let moves = replies(alloc, 11)?;
+        let link = PlayLink { takes, moves };
+        let failing = vec![in alloc; failing]?;
+        assert_eq!(rt; seen_of(alloc, 6000, link, failing, Vec::new(alloc))?, came);
     }
-    let short = PlayLink {
-        takes: 5,
-        moves: Vec::new(alloc),
-    };
-    assert_eq!(rt;
-        seen(alloc, short, &[], &[])?,
-        (refused(Refusal::Send), 5, 0, 0)
-    );
+    Ok(())
+}
+
+#[test]
+fn each_write_that_fails(rt: HostRuntime) -> Result<(), Fail> {
+    let alloc = rt.alloc();
+    let cases: [(u32, Seen); 2] = [
+        (0, (Err(Stop::WriteFailed), 108, 9, 0)),
+        (1, (Err(Stop::WriteFailed), 145, 11, 40)),
+    ];
+    for (unwritten, came) in cases {
+        let moves = replies(alloc, 11)?;
+        let link = PlayLink {
+            takes: 1_000,
+            moves,
+        };
+        let unwritten = vec![in alloc; unwritten]?;
+        assert_eq!(rt;
+            seen_of(alloc, 6000, link, Vec::new(alloc), unwritten)?,
+            came
+        );
+    }
     Ok(())
 }
 
