@@ -20,17 +20,21 @@ use Rattle.commission_run.specs.Lines.{found_text, AppendsFront}
 abbrev pub with_current : Link → Links → Links
 with_current link links = record links { current = Some link }
 
--- What became of the bytes that were held, and of the record: a frame was taken from their front; a piece came behind what is less
--- than a frame; a fault stands at their front; or the receive for more gave none.
+-- What became of the bytes that were held, and of the record: a frame was taken from their front; a piece came
+-- behind what is less than a frame; a fault stands at their front; or the receive for more gave none.
 abbrev pub Arrives : Result (Option Frame) Stop → (held after : List ℕ) → (old new : Option Links) → Type 0
-Arrives (Ok (Some frame)) held after old new = IsFrame frame × (held ≡ frame_spelling frame ++ after) × (new ≡ old)
+Arrives (Ok (Some frame)) held after old new =
+    IsFrame frame × (held ≡ frame_spelling frame ++ after) × (new ≡ old)
 Arrives (Ok None) held after old new =
     IsUnfinished held × (piece : List ℕ) × (0 < length piece) × (after ≡ held ++ piece)
     × (new ≡ option_map (with_receipt (Bytes piece)) old)
 Arrives (Err (Refused (by.BadFrame fault))) held after old new = HasFault held fault × (new ≡ old)
-Arrives (Err (Refused by.Quiet)) held after old new = IsUnfinished held × (new ≡ option_map (with_receipt Quiet) old)
-Arrives (Err (Refused by.Closed)) held after old new = IsUnfinished held × (new ≡ option_map (with_receipt Closed) old)
-Arrives (Err (Refused by.Recv)) held after old new = IsUnfinished held × (new ≡ option_map with_failure old)
+Arrives (Err (Refused by.Quiet)) held after old new =
+    IsUnfinished held × (new ≡ option_map (with_receipt Quiet) old)
+Arrives (Err (Refused by.Closed)) held after old new =
+    IsUnfinished held × (new ≡ option_map (with_receipt Closed) old)
+Arrives (Err (Refused by.Recv)) held after old new =
+    IsUnfinished held × (new ≡ option_map with_failure old)
 Arrives (Err _) held after old new = ⊥
 
 -- a receive gave no bytes
@@ -51,10 +55,12 @@ gained_text None found = found_text found
 gained_text (Some had) found = []
 
 -- What became of the record and of the output by a frame that came to a standing.
-abbrev pub IsHandled : Result (Unit {0}) Stop → Standing → Frame → (old new : Option Links) → (text : List ℕ) → (before after : Option (List ℕ)) → Type 0
+abbrev pub IsHandled : Result (Unit {0}) Stop → Standing → Frame → (old new : Option Links)
+    → (text : List ℕ) → (before after : Option (List ℕ)) → Type 0
 IsHandled (Ok _) standing frame old new text before after =
     (took : Took) × (answer standing frame ≡ Ok took)
-    × Appends before after text × (new ≡ option_map (with_bytes (frames_spelling (request_by standing frame))) old)
+    × Appends before after text
+    × (new ≡ option_map (with_bytes (frames_spelling (request_by standing frame))) old)
 IsHandled (Err WriteFailed) standing frame old new text before after =
     IsSome (found_at (taken standing frame).stage) × (found_at standing.stage ≡ None)
     × AppendsFront before after text × (new ≡ old)

@@ -24,7 +24,7 @@ use Rattle.commission_run.specs.Course.{AreFirst, answered, EachAwaits}
 abbrev pub Outcome : Type 0
 Outcome = Result (Unit {0}) Stop
 
--- what an end says of the calls of the dialer: one failed at a dial, a send and a receive that failed, and none at any other end
+-- what an end says of the calls of the dialer: one failed, a dial, a send or a receive; none at any other end
 abbrev pub at_dialer : {T : Type 0} → Result T Stop → Result (Unit {0}) (Unit {0})
 at_dialer (Err (Refused by.Dial)) = Err tt
 at_dialer (Err (Refused by.Send)) = Err tt
@@ -36,8 +36,8 @@ abbrev pub at_output : {T : Type 0} → Result T Stop → Result (Unit {0}) (Uni
 at_output (Err WriteFailed) = Err tt
 at_output _ = Ok tt
 
--- The bytes sent: the requests in order up to the one that is asked at the end. The last is cut short where a send failed, and isn't
--- sent where a line before it couldn't be written.
+-- The bytes sent: the requests in order up to the one that is asked at the end. The last is cut short where a send
+-- failed, and isn't sent where a line before it couldn't be written.
 abbrev pub IsSent : Target → Outcome → List Frame → List ℕ → Type 0
 IsSent target (Err (Refused by.Send)) frames sent =
     (request : Frame) × (asked (standing_after target frames) ≡ Some request)
@@ -67,8 +67,9 @@ TakesFault target frames fault = (before : List Frame) × (last : Frame) × (fra
 abbrev pub Commission : Target → List Frame → Type 0
 Commission target frames = (found : Record702) × ((standing_after target frames).stage ≡ Commissioned found)
 
--- Why it ended, where these frames were taken out of the bytes that came: all points were passed; a line was due; a fault stands
--- behind the frames; or they lead to a fault. At the other ends a request is asked still. A link that wasn't made has no such end.
+-- Why it ended, where these frames were taken out of the bytes that came: all points were passed; a line was due; a
+-- fault stands behind the frames; or they lead to a fault. At the other ends a request is asked still. A link that
+-- wasn't made has no such end.
 abbrev pub IsCause : Target → Outcome → List Frame → (came : List ℕ) → Type 0
 IsCause target (Ok _) frames came = Commission target frames
 IsCause target (Err WriteFailed) frames came = IsSome (found_at (standing_after target frames).stage)
@@ -100,8 +101,8 @@ pub record IsCourse (target : Target) (inverter : ℕ) (outcome : Outcome) (fram
   pub cause : IsCause target outcome frames (received_bytes link)
   pub written : IsWritten outcome (passed_text inverter (standing_after target frames).stage) old new
 
--- The bytes that came are the replies of an inverter that is commissioned: the frames among them lead to the end, and no receive
--- answered that nothing came or that the link is closed.
+-- The bytes that came are the replies of an inverter that is commissioned: the frames among them lead to the end,
+-- and no receive answered that nothing came or that the link is closed.
 pub record HasReplies (target : Target) (link : Link) : Type 0 where
   pub frames : List Frame
   pub rest : List ℕ

@@ -12,8 +12,10 @@ use Rattle.commissioning.specs.Taking.{outcome}
 use Rattle.commissioning.specs.Runs.{standing_after, requests}
 use Rattle.commission_run.specs.Course.{EachAwaits}
 
--- The frames were taken, the requests that they lead to were sent whole, and all that came is the frames and what is held.
-pub record IsGoing (target : Target) (standing : Standing) (held : List ℕ) (frames : List Frame) (link : Link) : Type 0 where
+-- The frames were taken, the requests that they lead to were sent whole, and all that came is the frames and what
+-- is held.
+pub record IsGoing (target : Target) (standing : Standing) (held : List ℕ) (frames : List Frame) (link : Link)
+    : Type 0 where
   pub host : link.host ≡ target.port.host
   pub port : link.port ≡ target.port.port
   pub at : standing ≡ standing_after target frames

@@ -1,8 +1,8 @@
 //! Runs the commissioning of one inverter over a link that it dials, and writes what it finds.
 //!
-//! What a `Commission` asks goes out on the link, the frames that come there are handed to it, and the points that were
-//! found go to a sink as lines. The one contract above is that of `commission`: `specs/Course.antt` says what stands on
-//! the link at each end, `specs/Lines.antt` what is written. It takes no memory.
+//! What a `Commission` asks goes out on the link, the frames that come there are handed to it, and the points
+//! that were found go to a sink as lines. The one contract above is that of `commission`: `specs/Ends.antt` says
+//! what stands on the link at each end, and `specs/Lines.antt` what is written. It takes no memory.
 #![tactic(auto)]
 
 mod inbox;
@@ -17,3 +17,6 @@ pub use job::Job;
 pub use laws::replies_commission;
 pub use run::commission;
 pub use stop::{Refusal, Stop};
+
+#[cfg(test)]
+mod tests;

@@ -24,8 +24,9 @@ use commissioning::{Commission, Record702, Took};
 use mbap_frames::{Frame, frame_bytes};
 use world_traits::{Dialer, Sink, send_whole};
 
-/// Dials an inverter, commissions it over the link, and hangs up. It writes the line of the points as soon as they are
-/// found, before it sends anything more and before a refusal is answered, and the line of the inverter at the end.
+/// Dials an inverter, commissions it over the link, and hangs up. It writes the line of the points as soon as they
+/// are found, before it sends anything more and before a refusal is answered, and the line of the inverter at the
+/// end. It sends nothing after a line that couldn't be written.
 pub fn commission<N: Dialer, O: Sink>(job: Job, dialer: &mut N, out: &mut O) -> Result<(), Stop>
     requires { job.port.base ≤ 65514 }
 
@@ -87,8 +88,8 @@ fn converse<N: Dialer, O: Sink>(job: Job, dialer: &mut N, out: &mut O) -> Result
     write_line(out, &commissioned_text(inverter))
 }
 
-/// Hands a frame that came to the commissioning: writes the line of the points where they are found by it, and sends the
-/// request that it leads to.
+/// Hands a frame that came to the commissioning: writes the line of the points where they are found by it, and
+/// sends the request that it leads to.
 fn take<N: Dialer, O: Sink>(
     commission: &mut Commission,
     frame: &Frame,
@@ -116,9 +117,10 @@ fn take<N: Dialer, O: Sink>(
 
 /// Sends the request that is asked, where one is.
 fn ask<N: Dialer>(commission: &Commission, dialer: &mut N) -> Result<(), Stop>
-    ensures sent { OnOk result (N.links dialer.new
-        ≡ option_map (with_bytes (frames_spelling (option_to_list (asked commission.now)))) (N.links dialer.old)) }
-    ensures short { IfErr result (λ stop. CutsShort stop (asked commission.now) (N.links dialer.old) (N.links dialer.new)) }
+    ensures sent { OnOk result (N.links dialer.new ≡ option_map
+        (with_bytes (frames_spelling (option_to_list (asked commission.now)))) (N.links dialer.old)) }
+    ensures short { IfErr result (λ stop.
+        CutsShort stop (asked commission.now) (N.links dialer.old) (N.links dialer.new)) }
     ensures cause { HasCause (N.faults dialer.old) (N.faults dialer.new) (at_dialer result) }
 {
     let Some(request) = commission.next() else {
