@@ -16,7 +16,7 @@ use world_traits::{Clock, Dialer, Source};
 
 /// The simulation of an inverter, which reverts as late as the tolerance of its timer allows.
 #[tactic(auto, using(crate::proofs::Timers::tmin_tmax))]
-fn simulated(unit: Unit, rules: Rules, port: &Port) -> Bank
+pub fn simulated(unit: Unit, rules: Rules, port: &Port) -> Bank
     ensures { result ≡ new_bank unit rules port.now.unit (tmax rules) }
 {
     let after = rules.tmax();
