@@ -33,8 +33,8 @@ end_of (Ok _) = ends.Done
 end_of (Err WriteFailed) = ends.WriteFault
 end_of (Err (Refused refusal)) = ends.Refused (fault_of refusal)
 
--- An inverter's commissioning was begun and ended so: at a dial that failed nothing more was done, else one link was made at the
--- inverter's port, and this is what passed there and was written.
+-- An inverter's commissioning was begun and ended so: at a dial that failed nothing more was done, else one
+-- link was made at the inverter's port, and this is what passed there and was written.
 pub record Commissions (job : Job) (outcome : Outcome) (output : Change) (dialing : Dialing) : Type 0 where
   pub dialer_faults : HasCause dialing.faults_old dialing.faults_new (at_dialer outcome)
   pub output_faults : HasCause output.faults_old output.faults_new (at_output outcome)
@@ -42,12 +42,15 @@ pub record Commissions (job : Job) (outcome : Outcome) (output : Change) (dialin
   pub course : outcome ≢ Err (Refused by.Dial) → (frames : List Frame) × MakesLink (λ link.
       IsCourse (target_of job) job.inverter outcome frames link output.old output.new) dialing
   -- where no call failed and the replies of an inverter that is commissioned came, it is done
-  pub complete : (before : Links) (link : Link) → dialing.old ≡ Some before → dialing.new ≡ Some (with_past_link link before)
+  pub complete : (before : Links) (link : Link) → dialing.old ≡ Some before
+      → dialing.new ≡ Some (with_past_link link before)
       → HasReplies (target_of job) link → (FaultsAt dialing → ⊥) → (Fails output → ⊥) → IsOk outcome
 
--- the ends of `commission` for the inverter of this number, each with what it says of the bytes that were read
-pub data IsCommissionEnd (number : ℕ) (read : List ℕ) (site output : Change) (dialing : Dialing) (ended : Ended) : Type 0 where
+-- The ends of `commission` for the inverter of this number, each with what it says of the bytes read.
+pub data IsCommissionEnd (number : ℕ) (read : List ℕ) (site output : Change) (dialing : Dialing)
+    (ended : Ended) : Type 0 where
   not_begun : FindsNoInverter number read site ended → GainsNothing output → DialsNothing dialing
       → IsCommissionEnd number read site output dialing ended
-  begun : (job : Job) (outcome : Outcome) → FindsInverter number job read site → Commissions job outcome output dialing
+  begun : (job : Job) (outcome : Outcome) → FindsInverter number job read site
+      → Commissions job outcome output dialing
       → ended ≡ end_of outcome → IsCommissionEnd number read site output dialing ended

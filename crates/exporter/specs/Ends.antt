@@ -55,7 +55,8 @@ abbrev pub IsReplayEnd : Ended → List ℕ → Change → Change → Type 0
 IsReplayEnd ends.Done read input output =
     End (Unit {0}) (ReadsWhole input_limit read input) (GainsText (IsReplay read) output)
 IsReplayEnd (ends.BadLine line kind) read input output =
-    End ((kind ≡ kinds.Form) × LeavesFormAt read line) (ReadsWhole input_limit read input) (GainsNothing output)
+    End ((kind ≡ kinds.Form) × LeavesFormAt read line)
+    (ReadsWhole input_limit read input) (GainsNothing output)
 IsReplayEnd ends.ReadFault read input output =
     End (Fails input) (ReadsFront input_limit read input) (GainsNothing output)
 IsReplayEnd ends.WriteFault read input output =

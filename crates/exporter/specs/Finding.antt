@@ -24,8 +24,10 @@ pub record FindsInverter (number : ℕ) (job : Job) (read : List ℕ) (site : Ch
   pub reads : ReadsSite file read site
   pub is_job : IsJob file number job
 
--- How a command ends that was given no such inverter: it was given no site file, or one that has none of this number.
+-- How a command ends that was given no such inverter: it was given no site file, or one that has none of this
+-- number.
 pub data FindsNoInverter (number : ℕ) (read : List ℕ) (site : Change) (ended : Ended) : Type 0 where
   no_site : FindsNoSite ended read site → FindsNoInverter number read site ended
   no_inverter : (file : SiteFileRecord) → ReadsSite file read site → inverters file.site ≤ number
-      → ended ≡ ends.Refused (faults.NoSuchInverter (inverters file.site)) → FindsNoInverter number read site ended
+      → ended ≡ ends.Refused (faults.NoSuchInverter (inverters file.site))
+      → FindsNoInverter number read site ended

@@ -36,9 +36,10 @@ LacksInverter task count bytes = (file : SiteFileRecord) × IsSiteFile bytes fil
 
 -- the bytes are a site file that has the inverter of the task, and this is it
 abbrev pub HasInverter : Task → Job → (bytes : List ℕ) → Type 0
-HasInverter task job bytes = (file : SiteFileRecord) × IsSiteFile bytes file × IsJob file (inverter_of task) job
+HasInverter task job bytes =
+    (file : SiteFileRecord) × IsSiteFile bytes file × IsJob file (inverter_of task) job
 
--- Of an inverter: the frames taken are the first of the bytes that came, and the last of them is answered by this fault.
+-- of an inverter: the frames taken are the first of the bytes that came, and the last is answered so
 abbrev pub IsRefusedBy : Job → CommissionFault → Link → Type 0
 IsRefusedBy job fault link = (frames : List Frame)
     × AreFirst frames (received_bytes link) × TakesFault (target_of job) frames fault

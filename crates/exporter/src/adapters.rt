@@ -1,5 +1,5 @@
-//! The outside of the program: a file, TCP connections and the system's clock, as the traits of `world_traits`. Each
-//! counts its faults, and tells nothing of what it holds, sends or receives.
+//! The outside of the program: a file, TCP connections and the system's clock, as the traits of
+//! `world_traits`. Each counts its faults, and tells nothing of what it holds, sends or receives.
 
 mod boot_clock;
 mod calling;

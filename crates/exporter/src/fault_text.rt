@@ -1,5 +1,5 @@
-//! Faults as they stand on standard error: the name of the variant in lower-case letters and its values, one space
-//! between two. A nested fault stands behind what holds it.
+//! Faults as they stand on standard error: the name of the variant in lower-case letters and its values, one
+//! space between two. A nested fault stands behind what holds it.
 use crate::live_fault::LiveFault;
 use commissioning::CommissionFault;
 use limiter_num::{Point, RatingFault};

@@ -39,7 +39,8 @@ fn job_of(file: SiteFile, inverter: u8) -> Result<Job, u32>
     })
 }
 
-/// Reads the site file to its end, and finds the inverter of this number in it; or tells how the command ends.
+/// Reads the site file to its end, and finds the inverter of this number in it; or tells how the command
+/// ends.
 pub fn find_inverter<S: Source>(alloc: Global, site: &mut S, inverter: u8) -> Result<Job, Ended>
     ensures later { S.faults site.old ≤ S.faults site.new }
     ensures found { IfOk result (λ job.

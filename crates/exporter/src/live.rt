@@ -12,10 +12,11 @@ ghost use Rattle.commission_run.specs.declared.job.Job.{Job};
 ghost use Rattle.exporter.specs.Streams.{change, GainsNothing};
 ghost use Rattle.exporter.specs.Site.{site_limit};
 ghost use Rattle.exporter.specs.Words.{Ask};
-ghost use Rattle.exporter.specs.Dialing.{DialsNothing, FailsToDial, FailsToReceive, FaultsAt, HasBadFrame, HeardLast};
-ghost use Rattle.exporter.specs.Dialing.{MakesLink, dialing, first_dialing};
+ghost use Rattle.exporter.specs.Dialing.{DialsNothing, FailsToDial, FailsToReceive, FaultsAt};
+ghost use Rattle.exporter.specs.Dialing.{HasBadFrame, HeardLast, MakesLink, dialing, first_dialing};
 ghost use Rattle.exporter.specs.Finding.{IsJob};
-ghost use Rattle.exporter.specs.Live.{HasInverter, HearsReplies, IsRefusedBy, IsTaskEnd, LacksInverter, inverter_of};
+ghost use Rattle.exporter.specs.Live.{HasInverter, HearsReplies, IsRefusedBy, IsTaskEnd};
+ghost use Rattle.exporter.specs.Live.{LacksInverter, inverter_of};
 
 use crate::commission::commission;
 use crate::ended::Ended;
@@ -64,9 +65,10 @@ fn run_with_first<S: Source, O: Sink, N: Dialer, K: Clock>(
     run_task(alloc, task, site, out, &mut dialers[0], clock)
 }
 
-/// Does over links what the words of the command line ask for. `commission I` reads the site file, and commissions the
-/// inverter of this number over the first dialer. `serve I T` reads it too, and serves a simulation of that inverter in
-/// so many turns. The console is for a run of the plant. It may wait, as the dialers and the clock may.
+/// Does over links what the words of the command line ask for. `commission I` reads the site file, and
+/// commissions the inverter of this number over the first dialer. `serve I T` reads it too, and serves a
+/// simulation of that inverter in so many turns. The console is for a run of the plant. It may wait, as the
+/// dialers and the clock may.
 pub fn live<S: Source, C: Source + Send, O: Sink + Send, N: Dialer + Send, K: Clock + Sync>(
     alloc: Global,
     words: &Vec<String>,
@@ -87,8 +89,8 @@ pub fn live<S: Source, C: Source + Send, O: Sink + Send, N: Dialer + Send, K: Cl
     ensures other_dialers { drop 1 dialers.new.items ≡ drop 1 dialers.old.items }
     ensures as_many { length dialers.new.items ≡ 64 }
 
-    // What each end of a task says, for the bytes that were read: its cause, what passed over the links, and what was
-    // written.
+    // What each end of a task says, for the bytes that were read: its cause, what passed over the links, and
+    // what was written.
     ensures ends { (task : Task) → Ask (map string_bytes words.now.items) task
         → (read : List ℕ) × IsTaskEnd (K.may_give clock.now) task read
         (change S.left S.faults site.old site.new) (change O.taken O.faults out.old out.new)
@@ -122,19 +124,22 @@ pub fn live<S: Source, C: Source + Send, O: Sink + Send, N: Dialer + Send, K: Cl
     ensures bad_frame { (fault : FrameFault) → result ≡ Ended.Refused (LiveFault.BadFrame fault)
         → MakesLink (HasBadFrame fault)
         (first_dialing N.links N.faults dialers.old.items dialers.new.items) }
-    ensures commission_fault { (task : Task) (fault : CommissionFault) → Ask (map string_bytes words.now.items) task
+    ensures commission_fault { (task : Task) (fault : CommissionFault)
+        → Ask (map string_bytes words.now.items) task
         → result ≡ Ended.Refused (LiveFault.Commission fault)
         → (job : Job) × IfSome (S.left site.old) (HasInverter task job) × MakesLink (IsRefusedBy job fault)
         (first_dialing N.links N.faults dialers.old.items dialers.new.items) }
 
-    // A site file that has the inverter, and no rise of a count of faults: `serve` is done. So is `commission` where
-    // the bytes that came are the replies of an inverter that is commissioned.
-    ensures serve_complete { (inverter turns : ℕ) → Ask (map string_bytes words.now.items) (Task.Serve inverter turns)
+    // A site file that has the inverter, and no rise of a count of faults: `serve` is done. So is
+    // `commission` where the bytes that came are the replies of an inverter that is commissioned.
+    ensures serve_complete { (inverter turns : ℕ)
+        → Ask (map string_bytes words.now.items) (Task.Serve inverter turns)
         → IfSome (S.left site.old) (λ bytes. length bytes ≤ site_limit
         → (file : SiteFileRecord) → IsSiteFile bytes file → inverter < inverters file.site
         → (Rose (S.faults site.old) (S.faults site.new) → ⊥)
         → (result ≡ Ended.Done) ⊎ (result ≡ Ended.NoMemory)) }
-    ensures commission_complete { (inverter : ℕ) → Ask (map string_bytes words.now.items) (Task.Commission inverter)
+    ensures commission_complete { (inverter : ℕ)
+        → Ask (map string_bytes words.now.items) (Task.Commission inverter)
         → IfSome (S.left site.old) (λ bytes. length bytes ≤ site_limit
         → (file : SiteFileRecord) → IsSiteFile bytes file → (job : Job) → IsJob file inverter job
         → HearsReplies job (first_dialing N.links N.faults dialers.old.items dialers.new.items)

@@ -89,13 +89,16 @@ pub fn plain<S: Source, O: Sink>(
 ) -> Ended
     // The words are at fault exactly where they ask for nothing; then nothing is read.
     ensures bad_words { result ≡ Ended.BadWords
-        ↔ ((AreReplay (map string_bytes words.now.items) → ⊥) × (AreCheck (map string_bytes words.now.items) → ⊥)) }
+        ↔ ((AreReplay (map string_bytes words.now.items) → ⊥)
+        × (AreCheck (map string_bytes words.now.items) → ⊥)) }
     ensures unread { result ≡ Ended.BadWords → input.new ≡ input.old }
 
-    // What each end of a command says, for the bytes that were read: its cause, what was read, what was written.
+    // What each end of a command says, for the bytes that were read: its cause, what was read, what was
+    // written.
     ensures ends { AreReplay (map string_bytes words.now.items) → (read : List ℕ) × IsReplayEnd result read
         (change S.left S.faults input.old input.new) (change O.taken O.faults out.old out.new) }
-    ensures check_ends { AreCheck (map string_bytes words.now.items) → (read : List ℕ) × IsCheckEnd result read
+    ensures check_ends { AreCheck (map string_bytes words.now.items)
+        → (read : List ℕ) × IsCheckEnd result read
         (change S.left S.faults input.old input.new) (change O.taken O.faults out.old out.new) }
     ensures read_faults_stay { S.faults input.old ≤ S.faults input.new }
     ensures write_faults_stay { O.faults out.old ≤ O.faults out.new }

@@ -38,8 +38,10 @@ fn plain_number(word: &str) -> Option<u32>
 
 /// The number in this range that a word is.
 fn number_of(word: &str, least: u32, most: u32) -> Option<u32>
-    ensures some { IfSome result (λ number. (word.now ≡ decimal number) × (least ≤ number) × (number ≤ most)) }
-    ensures none { IfNone result ((number : ℕ) → least ≤ number → number ≤ most → word.now ≡ decimal number → ⊥) }
+    ensures some { IfSome result (λ number.
+        (word.now ≡ decimal number) × (least ≤ number) × (number ≤ most)) }
+    ensures none { IfNone result ((number : ℕ)
+        → least ≤ number → number ≤ most → word.now ≡ decimal number → ⊥) }
 {
     match plain_number(word) {
         Some(number) if least <= number && number <= most => Some(number),

@@ -10,8 +10,8 @@ use world_traits::Clock;
 /// How long a clock that can't be read is left alone, in ms.
 const NEXT_TRY: u64 = 1;
 
-/// The system's monotonic clock, in ms from the boot of the machine, so that the moments of two runs stand in one
-/// order. Where it can't be read, its calls wait until it can.
+/// The system's monotonic clock, in ms from the boot of the machine, so that the moments of two runs stand in
+/// one order. Where it can't be read, its calls wait until it can.
 #[derive(Drop)]
 pub struct BootClock<R> {
     rt: R,

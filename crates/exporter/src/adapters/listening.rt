@@ -5,8 +5,8 @@ use std::os::fd::OwnedFd;
 use std::rt::Clock;
 use std::time::Duration;
 
-/// Listens at a host's port, and waits there for a peer to connect. Between two connections it goes on listening, so
-/// a peer that comes early is the next.
+/// Listens at a host's port, and waits there for a peer to connect. Between two connections it goes on
+/// listening, so a peer that comes early is the next.
 #[derive(Drop)]
 pub struct Listening<R> {
     rt: R,
@@ -48,7 +48,8 @@ impl<R: Net<Listener = TcpListener, Stream = TcpStream> + Clock + Copy> Opener f
         Listening { rt, listener: None }
     }
 
-    /// Where the host isn't of this machine, or its port is another's, nobody can come: the wait is over all the same.
+    /// Where the host isn't of this machine, or its port is another's, nobody can come: the wait
+    /// passes all the same.
     fn open(&mut self, host: &str, port: u16, wait: u32) -> io::Result<TcpStream> {
         let wait = Duration::from_millis(u64::from(wait));
         let listener = match self.listen(host, port) {

@@ -79,7 +79,8 @@ fn transmit(stream: &mut Option<TcpStream>, bytes: &[u8]) -> Result<usize, SendF
     }
 }
 
-/// Receives from the connection, where there is one. A read that waited for nothing says that it would go on waiting.
+/// Receives from the connection, where there is one. A read that waited for nothing says that it would go on
+/// waiting.
 fn receive(stream: &mut Option<TcpStream>, into: &mut [u8]) -> Result<Received, RecvFailed>
     ensures { IfOk result (FitsInto into.new) }
 {

@@ -1,4 +1,4 @@
-//! Each adapter over the real thing, once: no clause says what a file, a connection or the system's clock gives.
+//! Each adapter over the real thing, once: no clause says what a file, a connection or the clock gives.
 use super::{BootClock, Calling, Listening, Opened, TcpDialer};
 use std::io::{Read, Write};
 use std::net::{TcpListener, TcpStream};

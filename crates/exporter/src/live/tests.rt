@@ -48,8 +48,8 @@ fn plant(alloc: Global) -> Result<String, Fail> {
     Ok(format!(in alloc; "{SITE}{INVERTER}{INVERTER}")?)
 }
 
-/// How `live` ends with these words, this site file, of which the reads with these numbers fail, and 64 dialers; and what it
-/// writes.
+/// How `live` ends with these words, this site file, of which the reads with these numbers fail, and 64
+/// dialers; and what it writes.
 fn run<N: Dialer + Send>(
     rt: &impl Abort,
     alloc: Global,
