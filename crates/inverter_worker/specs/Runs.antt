@@ -1,0 +1,52 @@
+-- A run of the table, its calls, and its log.
+use Rattle.std.specs.Prelude.{◌≡◌, ℕ, false, List, [], ◌∷◌, Option, Some, None}
+use Rattle.std.specs.List.{flat_map}
+use Rattle.plant_book.specs.declared.call.Call.{Call}
+use Rattle.plant_ledger.specs.Release.{back_of}
+use Rattle.inverter_worker.specs.declared.job.Job.{Job}
+use Rattle.inverter_worker.specs.declared.input.Input.{Input}
+use Rattle.inverter_worker.specs.declared.output.Output.{Output}
+use Rattle.inverter_worker.specs.declared.output.Output.TheVariants as output
+use Rattle.inverter_worker.specs.declared.output.Sent.{Sent}
+use Rattle.inverter_worker.specs.declared.state.State.{State}
+use Rattle.inverter_worker.specs.declared.state.Step.TheVariants.{Ready}
+use Rattle.inverter_worker.specs.Table.{table}
+
+-- one step of a run: a state, the input that came in it, and the output that followed
+pub record Taken : Type 0 where
+  pub state : State
+  pub came : Input
+  pub output : Output
+
+-- Steps lead from a state to a state: each output, and each state behind it, is the table's for the state and the input.
+abbrev pub LeadsTo : Job → State → List Taken → State → Type 0
+LeadsTo job from [] last = from ≡ last
+LeadsTo job from (taken ∷ later) last =
+    (taken.state ≡ from)
+    × ((next : State) × ((table job from taken.came ≡ Some (next, taken.output)) × LeadsTo job next later last))
+
+-- a worker begins at Ready, with no link, and with all its turns
+abbrev pub first_state : (turns : ℕ) → State
+first_state turns = record { step = Ready; up = false; last = None; turns = turns; skipped = 0 }
+
+-- a run of so many turns, which has come to a state
+abbrev pub IsRun : Job → (turns : ℕ) → List Taken → State → Type 0
+IsRun job turns run state = LeadsTo job (first_state turns) run state
+
+-- the calls that a step makes: a Call, or the Back of a Release
+abbrev pub calls_by : Output → List Call
+calls_by (output.Call call) = call ∷ []
+calls_by (output.Release write moment) = back_of write moment ∷ []
+calls_by _ = []
+
+-- the requests that a step sends, each with its reading of the clock
+abbrev pub sent_by : Output → List Sent
+sent_by (output.Send request clock) = record { request = request; clock = clock } ∷ []
+sent_by _ = []
+
+-- the calls of a run, and its log
+abbrev pub calls : List Taken → List Call
+calls run = flat_map (λ taken. calls_by taken.output) run
+
+abbrev pub log : List Taken → List Sent
+log run = flat_map (λ taken. sent_by taken.output) run
