@@ -1,5 +1,5 @@
 -- A run of the table, its calls, and its log.
-use Rattle.std.specs.Prelude.{◌≡◌, ℕ, false, List, [], ◌∷◌, Option, Some, None}
+use Rattle.std.specs.Prelude.{◌≡◌, ℕ, false, IsTrue, List, [], ◌∷◌, Some, None}
 use Rattle.std.specs.List.{flat_map}
 use Rattle.plant_book.specs.declared.call.Call.{Call}
 use Rattle.plant_ledger.specs.Release.{back_of}
@@ -7,9 +7,12 @@ use Rattle.inverter_worker.specs.declared.job.Job.{Job}
 use Rattle.inverter_worker.specs.declared.input.Input.{Input}
 use Rattle.inverter_worker.specs.declared.output.Output.{Output}
 use Rattle.inverter_worker.specs.declared.output.Output.TheVariants as output
+use Rattle.inverter_worker.specs.declared.output.Asked.{Asked}
+use Rattle.inverter_worker.specs.declared.output.Asked.TheVariants as asked
 use Rattle.inverter_worker.specs.declared.output.Sent.{Sent}
 use Rattle.inverter_worker.specs.declared.state.State.{State}
 use Rattle.inverter_worker.specs.declared.state.Step.TheVariants.{Ready}
+use Rattle.inverter_worker.specs.States.{in_window}
 use Rattle.inverter_worker.specs.Table.{table}
 
 -- one step of a run: a state, the input that came in it, and the output that followed
@@ -50,3 +53,11 @@ calls run = flat_map (λ taken. calls_by taken.output) run
 
 abbrev pub log : List Taken → List Sent
 log run = flat_map (λ taken. sent_by taken.output) run
+
+-- a write is sent within its send window; a read-back has none
+abbrev pub IsInWindow : Job → Asked → (clock : ℕ) → Type 0
+IsInWindow job (asked.Write write) clock = IsTrue (in_window job write clock)
+IsInWindow job (asked.Read read) clock = Unit {0}
+
+abbrev pub IsInTime : Job → Sent → Type 0
+IsInTime job sent = IsInWindow job sent.request sent.clock

@@ -49,19 +49,16 @@ row job state (Dialing raw) input.DialFailed = to state Resting (output.Rest job
 row job state (Dialing raw) input.Dialed = to state (LinkTiming raw) output.Now
 row job state (LinkTiming raw) (input.Time c) = to state (Linking raw) (output.Call (call.Link c job.inverter))
 row job state (Linking raw) (input.Reply (reply.Linked link)) = to (linked state) (Timing raw) output.Now
-row job state (Linking raw) input.Full = to state (Over over.BookFull) output.End
 row job state (Timing raw) (input.Time c) =
     if due job state.last c raw then to state Asking (output.Call (call.Ask c job.inverter raw))
     else to state ReadAsking (output.Call (call.Read c job.inverter))
 row job state Asking (input.Reply (reply.Granted write)) = to state (Window write) output.Now
 row job state Asking (input.Reply reply.Spent) = to state Closing output.HangUp
 row job state Asking (input.Reply _) = to state ReadTiming output.Now
-row job state Asking input.Full = to state (Over over.BookFull) output.End
 row job state (Window write) (input.Time c) =
     if in_window job write c then to state (Sending write) (output.Send (asked.Write write) c)
     else to state (ReleaseTiming write) (output.Release write c)
 row job state (ReleaseTiming write) (input.Reply _) = to state ReadTiming output.Now
-row job state (ReleaseTiming write) input.Full = to state (Over over.BookFull) output.End
 row job state (Sending write) input.SentAll = to (with_last state write) (WaitWrite write) output.Receive
 row job state (Sending write) input.SendFailed = to state Closing output.HangUp
 row job state (WaitWrite write) (input.Frame frame) =
@@ -74,7 +71,6 @@ row job state (WaitWrite write) input.BadFrame = to state Closing output.HangUp
 row job state ReadTiming (input.Time c) = to state ReadAsking (output.Call (call.Read c job.inverter))
 row job state ReadAsking (input.Reply (reply.ReadAs read)) = to state (ReadWindow read) output.Now
 row job state ReadAsking (input.Reply _) = to state Closing output.HangUp
-row job state ReadAsking input.Full = to state (Over over.BookFull) output.End
 row job state (ReadWindow read) (input.Time c) = to state (SendingRead read) (output.Send (asked.Read read) c)
 row job state (SendingRead read) input.SentAll = to (none_skipped state) (WaitRead read) output.Receive
 row job state (SendingRead read) input.SendFailed = to state Closing output.HangUp
@@ -87,11 +83,15 @@ row job state (WaitRead read) input.BadFrame = to state Closing output.HangUp
 row job state (SawTiming read raw) (input.Time c) =
     to state SawAsking (output.Call (call.Saw c job.inverter read.number raw))
 row job state SawAsking (input.Reply _) = to state Resting (output.Rest job.pause)
-row job state SawAsking input.Full = to state (Over over.BookFull) output.End
 row job state Closing input.HungUp = to (hung_up state) Resting (output.Rest job.pause)
 row job state (UnfitClosing point wanted found) input.HungUp =
     to (down state) (Over (over.Unfit point wanted found)) output.End
 row job state Resting input.Rested = to state Ready output.Nothing
+row job state (Linking raw) input.Full = to state (Over over.BookFull) output.End
+row job state Asking input.Full = to state (Over over.BookFull) output.End
+row job state (ReleaseTiming write) input.Full = to state (Over over.BookFull) output.End
+row job state ReadAsking input.Full = to state (Over over.BookFull) output.End
+row job state SawAsking input.Full = to state (Over over.BookFull) output.End
 row job state step came = None
 
 -- what the table has for a state and an input, and whether it has a row for them

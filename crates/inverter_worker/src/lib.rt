@@ -7,6 +7,7 @@
 mod closing;
 mod input;
 mod job;
+mod laws;
 mod linking;
 mod output;
 mod reading;
@@ -16,6 +17,10 @@ mod writing;
 
 pub use input::Input;
 pub use job::Job;
+pub use laws::{answers_have_rows, runs_go_on};
 pub use output::{Asked, Output, Sent};
 pub use state::{End, SKIPPED_MAX, State, Step};
 pub use table::worker_step;
+
+#[cfg(test)]
+mod tests;

@@ -29,7 +29,7 @@ pub fn worker_step(job: &Job, state: State, input: Input) -> (State, Output)
     }
 }
 
-fn row_of(job: &Job, state: State, input: &Input) -> Row
+pub(crate) fn row_of(job: &Job, state: State, input: &Input) -> Row
     requires { job.now.port.base ≤ 65514 }
     ensures { result ≡ table job.now state input.now }
 {
