@@ -16,36 +16,36 @@ use Rattle.inverter_worker.specs.declared.state.Step.{Step}
 use Rattle.inverter_worker.specs.declared.state.Step.TheVariants.{Ready, Aiming, Dialing, LinkTiming, Linking, Timing, Asking, Window, ReleaseTiming, Sending, WaitWrite, ReadTiming, ReadAsking, ReadWindow, SendingRead, WaitRead, SawTiming, SawAsking, Closing, UnfitClosing, Resting, Over}
 use Rattle.plant_book.specs.declared.call.Write as writes
 use Rattle.inverter_worker.specs.States.{due, in_window}
-use Rattle.inverter_worker.specs.Table.{row, table, passed_over, judged_row}
-use Rattle.inverter_worker.specs.Runs.{Taken, LeadsTo, log, sent_by, IsInTime}
+use Rattle.inverter_worker.specs.Table.{row, table, other_frame_row, judgement_row}
+use Rattle.inverter_worker.specs.Runs.{RunStep, LeadsTo, log, sends_of, IsInTime}
 
-pub LeadsTo-append : (job : Job) (from middle last : State) (run later : List Taken)
+pub LeadsTo-append : (job : Job) (from middle last : State) (run later : List RunStep)
     → LeadsTo job from run middle → LeadsTo job middle later last → LeadsTo job from (run ++ later) last
 LeadsTo-append job from middle last [] later before behind =
     let P : State → Type 0 = λ state. LeadsTo job state later last in subst P (sym before) behind
-LeadsTo-append job from middle last (taken ∷ run) later before behind =
+LeadsTo-append job from middle last (one ∷ run) later before behind =
     (before.0, (before.1.0, (before.1.1.0, LeadsTo-append job before.1.0 middle last run later before.1.1.1 behind)))
 
-pub LeadsTo-push : (job : Job) (from state next : State) (run : List Taken) (came : Input) (output : Output)
+pub LeadsTo-push : (job : Job) (from state next : State) (run : List RunStep) (came : Input) (output : Output)
     → LeadsTo job from run state → table job state came ≡ Some (next, output)
-    → LeadsTo job from (run ++ record { state = state; came = came; output = output } ∷ []) next
+    → LeadsTo job from (run ++ record { state = state; input = came; output = output } ∷ []) next
 LeadsTo-push job from state next run came output before is =
     LeadsTo-append job from state next run _ before (refl, (next, (is, refl)))
 
 -- a row sends a write within its send window alone
 abbrev pub SendsInTime : Job → Option (State × Output) → Type 0
 SendsInTime job None = Unit {0}
-SendsInTime job (Some row) = AllByRecursion (IsInTime job) (sent_by row.1)
+SendsInTime job (Some row) = AllByRecursion (IsInTime job) (sends_of row.1)
 
 either : (job : Job) (b : Bool) (x y : Option (State × Output)) → (b ≡ true → SendsInTime job x) → SendsInTime job y → SendsInTime job (cond b x y)
 either job true x y p q = p refl
 either job false x y p q = q
 
-passing_over : (job : Job) (state : State) (step : Step) → SendsInTime job (passed_over state step)
+passing_over : (job : Job) (state : State) (step : Step) → SendsInTime job (other_frame_row state step)
 passing_over job state step =
     either job (ltb state.skipped 7) _ _ (λ _. tt) (either job (eqb state.skipped 7) _ _ (λ _. tt) tt)
 
-judging : (job : Job) (state : State) (read : reads.Read) (judged : Judged) → SendsInTime job (judged_row state read judged)
+judging : (job : Job) (state : State) (read : reads.Read) (judged : Judged) → SendsInTime job (judgement_row state read judged)
 judging job state read (WrongNumber number) = passing_over job state (WaitRead read)
 judging job state read _ = tt
 
@@ -99,9 +99,9 @@ all_joined P [] ys before behind = behind
 all_joined P (x ∷ xs) ys before behind = (before.0, all_joined P xs ys before.1 behind)
 
 -- and so does a run
-pub sent_in_time : (job : Job) (from last : State) (run : List Taken) → LeadsTo job from run last → AllByRecursion (IsInTime job) (log run)
+pub sent_in_time : (job : Job) (from last : State) (run : List RunStep) → LeadsTo job from run last → AllByRecursion (IsInTime job) (log run)
 sent_in_time job from last [] leads = tt
-sent_in_time job from last (taken ∷ run) leads =
+sent_in_time job from last (one ∷ run) leads =
     let P : Option (State × Output) → Type 0 = λ row. SendsInTime job row in
-    all_joined (IsInTime job) (sent_by taken.output) (log run) (subst P leads.1.1.0 (rows job from from.step taken.came))
+    all_joined (IsInTime job) (sends_of one.output) (log run) (subst P leads.1.1.0 (rows job from from.step one.input))
     (sent_in_time job leads.1.0 last run leads.1.1.1)

@@ -17,31 +17,31 @@ abbrev pub in_window : Job → writes.Write → (clock : ℕ) → Bool
 in_window job write clock = nat_le write.at clock && nat_le clock (write.at + job.rules.send)
 
 -- a row: the next step, and the output
-abbrev pub to : State → Step → Output → Option (State × Output)
-to state step output = Some (record state { step = step }, output)
+abbrev pub row_to : State → Step → Output → Option (State × Output)
+row_to state step output = Some (record state { step = step }, output)
 
 abbrev pub one_turn_less : State → State
 one_turn_less state = record state { turns = state.turns - 1 }
 
 -- a link is up, and nothing was sent on it
-abbrev pub linked : State → State
-linked state = record state { up = true; last = None }
+abbrev pub with_link : State → State
+with_link state = record state { up = true; last = None }
 
 -- the link is down
-abbrev pub hung_up : State → State
-hung_up state = record state { up = false; last = None }
+abbrev pub without_link : State → State
+without_link state = record state { up = false; last = None }
 
 -- the link is down for good
-abbrev pub down : State → State
-down state = record state { up = false }
+abbrev pub with_link_down : State → State
+with_link_down state = record state { up = false }
 
 -- a write was sent on this link
 abbrev pub with_last : State → writes.Write → State
 with_last state write = record state { last = Some write; skipped = 0 }
 
 -- no frame was passed over in this wait, or one more
-abbrev pub none_skipped : State → State
-none_skipped state = record state { skipped = 0 }
+abbrev pub with_none_skipped : State → State
+with_none_skipped state = record state { skipped = 0 }
 
-abbrev pub one_more_skipped : State → State
-one_more_skipped state = record state { skipped = state.skipped + 1 }
+abbrev pub with_one_more_skipped : State → State
+with_one_more_skipped state = record state { skipped = state.skipped + 1 }

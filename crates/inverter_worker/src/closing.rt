@@ -20,7 +20,7 @@ pub(crate) fn closing(job: &Job, state: State, input: &Input) -> Row
                 last: None,
                 ..state
             };
-            hung_up.to(Step::Resting, Output::Rest(job.pause))
+            hung_up.row_to(Step::Resting, Output::Rest(job.pause))
         }
         _ => None,
     }
@@ -42,7 +42,7 @@ pub(crate) fn unfit_closing(
         found,
     };
     match input {
-        Input::HungUp => State { up: false, ..state }.to(Step::Over(unfit), Output::End),
+        Input::HungUp => State { up: false, ..state }.row_to(Step::Over(unfit), Output::End),
         _ => None,
     }
 }
@@ -51,7 +51,7 @@ pub(crate) fn resting(job: &Job, state: State, input: &Input) -> Row
     ensures { result ≡ row job.now state step.Resting input.now }
 {
     match input {
-        Input::Rested => state.to(Step::Ready, Output::Nothing),
+        Input::Rested => state.row_to(Step::Ready, Output::Nothing),
         _ => None,
     }
 }

@@ -7,7 +7,7 @@ ghost use Rattle.inverter_worker.specs.declared.output.Output.{Output};
 ghost use Rattle.inverter_worker.specs.declared.state.State.{State};
 ghost use Rattle.inverter_worker.specs.Table.{table, HasRow};
 ghost use Rattle.inverter_worker.specs.Answers.{IsAnswerTo};
-ghost use Rattle.inverter_worker.specs.Runs.{Taken, LeadsTo, calls, log, IsInTime};
+ghost use Rattle.inverter_worker.specs.Runs.{RunStep, LeadsTo, calls, log, IsInTime};
 
 /// The table has a row for each input that may come of its outputs: a worker never stands still.
 pub fn answers_have_rows()
@@ -18,13 +18,13 @@ pub fn answers_have_rows()
 /// A run and one step more, or another run behind it: the calls and the log go on likewise. Whatever came, each write of
 /// the log was sent within its send window.
 pub fn runs_go_on()
-    ensures more { (job : Job) (from state next : State) (run : List Taken) (came : Input) (output : Output)
+    ensures more { (job : Job) (from state next : State) (run : List RunStep) (came : Input) (output : Output)
         → LeadsTo job from run state → table job state came ≡ Some (next, output)
-        → LeadsTo job from (run ++ record { state = state; came = came; output = output } ∷ []) next }
-    ensures joined { (job : Job) (from middle last : State) (run later : List Taken)
+        → LeadsTo job from (run ++ record { state = state; input = came; output = output } ∷ []) next }
+    ensures joined { (job : Job) (from middle last : State) (run later : List RunStep)
         → LeadsTo job from run middle → LeadsTo job middle later last → LeadsTo job from (run ++ later) last }
-    ensures calls { (run later : List Taken) → calls (run ++ later) ≡ calls run ++ calls later }
-    ensures log { (run later : List Taken) → log (run ++ later) ≡ log run ++ log later }
-    ensures in_time { (job : Job) (from last : State) (run : List Taken) → LeadsTo job from run last
+    ensures calls { (run later : List RunStep) → calls (run ++ later) ≡ calls run ++ calls later }
+    ensures log { (run later : List RunStep) → log (run ++ later) ≡ log run ++ log later }
+    ensures in_time { (job : Job) (from last : State) (run : List RunStep) → LeadsTo job from run last
         → AllByRecursion (IsInTime job) (log run) }
 {}

@@ -14,11 +14,11 @@ pub(crate) fn ready(job: &Job, state: State, input: &Input) -> Row
     ensures { result ≡ row job.now state step.Ready input.now }
 {
     match input {
-        Input::NoRoom => state.to(Step::Over(End::NoMemory), Output::End),
-        Input::Go if state.turns == 0 => state.to(Step::Over(End::TurnsDone), Output::End),
+        Input::NoRoom => state.row_to(Step::Over(End::NoMemory), Output::End),
+        Input::Go if state.turns == 0 => state.row_to(Step::Over(End::TurnsDone), Output::End),
         Input::Go => {
             let turns = state.turns - 1;
-            State { turns, ..state }.to(Step::Aiming, Output::Goal)
+            State { turns, ..state }.row_to(Step::Aiming, Output::Goal)
         }
         _ => None,
     }
@@ -28,9 +28,9 @@ pub(crate) fn aiming(job: &Job, state: State, input: &Input) -> Row
     ensures { result ≡ row job.now state step.Aiming input.now }
 {
     match input {
-        Input::Goal(goal) if goal.stop => state.to(Step::Over(End::Stopped), Output::End),
-        Input::Goal(goal) if state.up => state.to(Step::Timing(goal.raw), Output::Now),
-        Input::Goal(goal) => state.to(Step::Dialing(goal.raw), Output::Dial),
+        Input::Goal(goal) if goal.stop => state.row_to(Step::Over(End::Stopped), Output::End),
+        Input::Goal(goal) if state.up => state.row_to(Step::Timing(goal.raw), Output::Now),
+        Input::Goal(goal) => state.row_to(Step::Dialing(goal.raw), Output::Dial),
         _ => None,
     }
 }
@@ -39,8 +39,8 @@ pub(crate) fn dialing(job: &Job, state: State, raw: u16, input: &Input) -> Row
     ensures { result ≡ row job.now state (step.Dialing raw) input.now }
 {
     match input {
-        Input::DialFailed => state.to(Step::Resting, Output::Rest(job.pause)),
-        Input::Dialed => state.to(Step::LinkTiming(raw), Output::Now),
+        Input::DialFailed => state.row_to(Step::Resting, Output::Rest(job.pause)),
+        Input::Dialed => state.row_to(Step::LinkTiming(raw), Output::Now),
         _ => None,
     }
 }
@@ -51,7 +51,7 @@ pub(crate) fn link_timing(job: &Job, state: State, raw: u16, input: &Input) -> R
     match *input {
         Input::Time(at) => {
             let inverter = job.inverter;
-            state.to(
+            state.row_to(
                 Step::Linking(raw),
                 Output::Call(Call::Link { at, inverter }),
             )
@@ -70,9 +70,9 @@ pub(crate) fn linking(job: &Job, state: State, raw: u16, input: &Input) -> Row
                 last: None,
                 ..state
             };
-            linked.to(Step::Timing(raw), Output::Now)
+            linked.row_to(Step::Timing(raw), Output::Now)
         }
-        Input::Full => state.to(Step::Over(End::BookFull), Output::End),
+        Input::Full => state.row_to(Step::Over(End::BookFull), Output::End),
         _ => None,
     }
 }

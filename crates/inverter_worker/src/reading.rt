@@ -1,7 +1,7 @@
 //! The rows from the time for a read-back to what it showed.
 ghost use Rattle.std.specs.Prelude.{◌≡◌, ◌≤◌};
 ghost use Rattle.inverter_worker.specs.declared.state.Step.TheVariants as step;
-ghost use Rattle.inverter_worker.specs.Table.{row, judged_row};
+ghost use Rattle.inverter_worker.specs.Table.{row, judgement_row};
 
 use crate::input::Input;
 use crate::job::Job;
@@ -17,7 +17,7 @@ pub(crate) fn read_timing(job: &Job, state: State, input: &Input) -> Row
     match *input {
         Input::Time(at) => {
             let inverter = job.inverter;
-            state.to(Step::ReadAsking, Output::Call(Call::Read { at, inverter }))
+            state.row_to(Step::ReadAsking, Output::Call(Call::Read { at, inverter }))
         }
         _ => None,
     }
@@ -27,9 +27,9 @@ pub(crate) fn read_asking(job: &Job, state: State, input: &Input) -> Row
     ensures { result ≡ row job.now state step.ReadAsking input.now }
 {
     match input {
-        Input::Reply(Reply::ReadAs(read)) => state.to(Step::ReadWindow(*read), Output::Now),
-        Input::Reply(_) => state.to(Step::Closing, Output::HangUp),
-        Input::Full => state.to(Step::Over(End::BookFull), Output::End),
+        Input::Reply(Reply::ReadAs(read)) => state.row_to(Step::ReadWindow(*read), Output::Now),
+        Input::Reply(_) => state.row_to(Step::Closing, Output::HangUp),
+        Input::Full => state.row_to(Step::Over(End::BookFull), Output::End),
         _ => None,
     }
 }
@@ -40,7 +40,7 @@ pub(crate) fn read_window(job: &Job, state: State, read: Read, input: &Input) ->
     match *input {
         Input::Time(clock) => {
             let send = Output::Send(Asked::Read(read), clock);
-            state.to(Step::SendingRead(read), send)
+            state.row_to(Step::SendingRead(read), send)
         }
         _ => None,
     }
@@ -55,9 +55,9 @@ pub(crate) fn sending_read(job: &Job, state: State, read: Read, input: &Input) -
                 skipped: 0,
                 ..state
             };
-            sent.to(Step::WaitRead(read), Output::Receive)
+            sent.row_to(Step::WaitRead(read), Output::Receive)
         }
-        Input::SendFailed => state.to(Step::Closing, Output::HangUp),
+        Input::SendFailed => state.row_to(Step::Closing, Output::HangUp),
         _ => None,
     }
 }
@@ -75,25 +75,25 @@ pub(crate) fn wait_read(job: &Job, state: State, read: Read, input: &Input) -> R
             )
         }
         Input::Quiet | Input::Closed | Input::RecvFailed | Input::BadFrame => {
-            state.to(Step::Closing, Output::HangUp)
+            state.row_to(Step::Closing, Output::HangUp)
         }
         _ => None,
     }
 }
 
 fn judged(state: State, read: Read, judged: Judged) -> Row
-    ensures { result ≡ judged_row state read judged }
+    ensures { result ≡ judgement_row state read judged }
 {
     match judged {
-        Judged::Shows(raw) => state.to(Step::SawTiming(read, raw), Output::Now),
+        Judged::Shows(raw) => state.row_to(Step::SawTiming(read, raw), Output::Now),
         Judged::Differs {
             point,
             wanted,
             found,
-        } => state.to(Step::UnfitClosing(point, wanted, found), Output::HangUp),
+        } => state.row_to(Step::UnfitClosing(point, wanted, found), Output::HangUp),
         Judged::WrongNumber(_) => state.pass_over(Step::WaitRead(read)),
         Judged::WrongUnit(_) | Judged::Exception(_) | Judged::WrongReply => {
-            state.to(Step::Closing, Output::HangUp)
+            state.row_to(Step::Closing, Output::HangUp)
         }
     }
 }
@@ -109,7 +109,7 @@ pub(crate) fn saw_timing(job: &Job, state: State, read: Read, raw: u16, input: &
                 number: read.number,
                 raw,
             };
-            state.to(Step::SawAsking, Output::Call(saw))
+            state.row_to(Step::SawAsking, Output::Call(saw))
         }
         _ => None,
     }
@@ -119,8 +119,8 @@ pub(crate) fn saw_asking(job: &Job, state: State, input: &Input) -> Row
     ensures { result ≡ row job.now state step.SawAsking input.now }
 {
     match input {
-        Input::Reply(_) => state.to(Step::Resting, Output::Rest(job.pause)),
-        Input::Full => state.to(Step::Over(End::BookFull), Output::End),
+        Input::Reply(_) => state.row_to(Step::Resting, Output::Rest(job.pause)),
+        Input::Full => state.row_to(Step::Over(End::BookFull), Output::End),
         _ => None,
     }
 }

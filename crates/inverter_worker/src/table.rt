@@ -1,7 +1,7 @@
 //! The table: for a state and an input the next state and the output.
 ghost use Rattle.std.specs.Prelude.{◌≡◌, ◌≤◌, Some};
-ghost use Rattle.inverter_worker.specs.States.{to};
-ghost use Rattle.inverter_worker.specs.Table.{row, table, HasRow, passed_over};
+ghost use Rattle.inverter_worker.specs.States.{row_to};
+ghost use Rattle.inverter_worker.specs.Table.{row, table, HasRow, other_frame_row};
 
 use crate::closing::{closing, resting, unfit_closing};
 use crate::input::Input;
@@ -63,21 +63,21 @@ pub(crate) fn row_of(job: &Job, state: State, input: &Input) -> Row
 
 impl State {
     /// The state at another step, and the output.
-    pub(crate) fn to(self, step: Step, output: Output) -> Row
-        ensures { result ≡ to self step output }
+    pub(crate) fn row_to(self, step: Step, output: Output) -> Row
+        ensures { result ≡ row_to self step output }
     {
         Some((State { step, ..self }, output))
     }
 
     /// A frame of another request came while the worker waits at this step.
     pub(crate) fn pass_over(self, step: Step) -> Row
-        ensures { result ≡ passed_over self step }
+        ensures { result ≡ other_frame_row self step }
     {
         if self.skipped < SKIPPED_MAX {
             let skipped = self.skipped + 1;
-            State { skipped, ..self }.to(step, Output::Receive)
+            State { skipped, ..self }.row_to(step, Output::Receive)
         } else if self.skipped == SKIPPED_MAX {
-            self.to(Step::Closing, Output::HangUp)
+            self.row_to(Step::Closing, Output::HangUp)
         } else {
             None
         }

@@ -18,9 +18,12 @@ pub(crate) fn timing(job: &Job, state: State, raw: u16, input: &Input) -> Row
     match *input {
         Input::Time(at) if is_due(job, state.last, at, raw) => {
             let ask = Call::Ask { at, inverter, raw };
-            state.to(Step::Asking, Output::Call(ask))
+            state.row_to(Step::Asking, Output::Call(ask))
         }
-        Input::Time(at) => state.to(Step::ReadAsking, Output::Call(Call::Read { at, inverter })),
+        Input::Time(at) => state.row_to(
+            Step::ReadAsking,
+            Output::Call(Call::Read { at, inverter }),
+        ),
         _ => None,
     }
 }
@@ -48,10 +51,10 @@ pub(crate) fn asking(job: &Job, state: State, input: &Input) -> Row
     ensures { result ≡ row job.now state step.Asking input.now }
 {
     match input {
-        Input::Reply(Reply::Granted(write)) => state.to(Step::Window(*write), Output::Now),
-        Input::Reply(Reply::Spent) => state.to(Step::Closing, Output::HangUp),
-        Input::Reply(_) => state.to(Step::ReadTiming, Output::Now),
-        Input::Full => state.to(Step::Over(End::BookFull), Output::End),
+        Input::Reply(Reply::Granted(write)) => state.row_to(Step::Window(*write), Output::Now),
+        Input::Reply(Reply::Spent) => state.row_to(Step::Closing, Output::HangUp),
+        Input::Reply(_) => state.row_to(Step::ReadTiming, Output::Now),
+        Input::Full => state.row_to(Step::Over(End::BookFull), Output::End),
         _ => None,
     }
 }
@@ -62,9 +65,12 @@ pub(crate) fn window(job: &Job, state: State, write: Write, input: &Input) -> Ro
     match *input {
         Input::Time(clock) if may_be_sent(job, &write, clock) => {
             let send = Output::Send(Asked::Write(write), clock);
-            state.to(Step::Sending(write), send)
+            state.row_to(Step::Sending(write), send)
         }
-        Input::Time(clock) => state.to(Step::ReleaseTiming(write), Output::Release(write, clock)),
+        Input::Time(clock) => state.row_to(
+            Step::ReleaseTiming(write),
+            Output::Release(write, clock),
+        ),
         _ => None,
     }
 }
@@ -82,8 +88,8 @@ pub(crate) fn release_timing(job: &Job, state: State, write: Write, input: &Inpu
     ensures { result ≡ row job.now state (step.ReleaseTiming write) input.now }
 {
     match input {
-        Input::Reply(_) => state.to(Step::ReadTiming, Output::Now),
-        Input::Full => state.to(Step::Over(End::BookFull), Output::End),
+        Input::Reply(_) => state.row_to(Step::ReadTiming, Output::Now),
+        Input::Full => state.row_to(Step::Over(End::BookFull), Output::End),
         _ => None,
     }
 }
@@ -98,9 +104,9 @@ pub(crate) fn sending(job: &Job, state: State, write: Write, input: &Input) -> R
                 skipped: 0,
                 ..state
             };
-            sent.to(Step::WaitWrite(write), Output::Receive)
+            sent.row_to(Step::WaitWrite(write), Output::Receive)
         }
-        Input::SendFailed => state.to(Step::Closing, Output::HangUp),
+        Input::SendFailed => state.row_to(Step::Closing, Output::HangUp),
         _ => None,
     }
 }
@@ -110,11 +116,11 @@ pub(crate) fn wait_write(job: &Job, state: State, write: Write, input: &Input) -
 {
     match input {
         Input::Frame(frame) if frame.transaction == write.number => {
-            state.to(Step::ReadTiming, Output::Now)
+            state.row_to(Step::ReadTiming, Output::Now)
         }
         Input::Frame(_) => state.pass_over(Step::WaitWrite(write)),
         Input::Quiet | Input::Closed | Input::RecvFailed | Input::BadFrame => {
-            state.to(Step::Closing, Output::HangUp)
+            state.row_to(Step::Closing, Output::HangUp)
         }
         _ => None,
     }
