@@ -1,5 +1,5 @@
 -- Each input that may come of an output of the table has a row.
-use Rattle.std.proofs.Common.{◌≡◌, ℕ, ◌+◌, ◌≤◌, Bool, true, false, cond, ◌||◌, ltb, eqb, Option, Some, None, refl, ap, arith, subst, inl, inr}
+use Rattle.std.proofs.Common.{◌≡◌, ℕ, ◌+◌, ◌≤◌, Bool, true, false, cond, ◌||◌, ltb, eqb, Option, Some, None, refl, arith, subst, inl, inr}
 use Rattle.std.specs.Prelude.{IsSome}
 use Rattle.std.proofs.lemmas.Bool.{cases_lt, lt-ltb, le-ltb, eq-eqb, ltb-true}
 use Rattle.limiter_num.specs.declared.rating.Point.{Point}
@@ -15,7 +15,6 @@ use Rattle.inverter_worker.specs.declared.input.Input.{Input}
 use Rattle.inverter_worker.specs.declared.input.Input.TheVariants as input
 use Rattle.inverter_worker.specs.declared.output.Output.{Output}
 use Rattle.inverter_worker.specs.declared.output.Output.TheVariants as output
-use Rattle.inverter_worker.specs.declared.output.Asked.{Asked}
 use Rattle.inverter_worker.specs.declared.output.Asked.TheVariants as asked
 use Rattle.inverter_worker.specs.declared.state.State.{State}
 use Rattle.inverter_worker.specs.declared.state.End.{End}
@@ -24,14 +23,15 @@ use Rattle.inverter_worker.specs.declared.state.Step.{Step}
 use Rattle.inverter_worker.specs.declared.state.Step.TheVariants.{Ready, Aiming, Dialing, LinkTiming, Linking, Timing, Asking, Window, ReleaseTiming, Sending, WaitWrite, ReadTiming, ReadAsking, ReadWindow, SendingRead, WaitRead, SawTiming, SawAsking, Closing, UnfitClosing, Resting, Over}
 use Rattle.inverter_worker.specs.States.{due, in_window, row_to, one_turn_less, with_link, without_link, with_link_down, with_last, with_none_skipped, with_one_more_skipped}
 use Rattle.inverter_worker.specs.Table.{row, table, HasRow, other_frame_row, judgement_row}
-use Rattle.inverter_worker.specs.Answers.{IsReplyTo, IsAnswerTo}
+use Rattle.inverter_worker.specs.Answers.{IsAnswerTo}
 
 -- each input that may come of a row's output has a row
 abbrev pub HasAnswers : Job → Option (State × Output) → Type 0
 HasAnswers job None = Unit {0}
 HasAnswers job (Some row) = (answer : Input) → IsAnswerTo row.1 answer → HasRow job row.0 answer
 
-either : (job : Job) (b : Bool) (x y : Option (State × Output)) → (b ≡ true → HasAnswers job x) → (b ≡ false → HasAnswers job y)
+either : (job : Job) (b : Bool) (x y : Option (State × Output)) → (b ≡ true → HasAnswers job x)
+    → (b ≡ false → HasAnswers job y)
     → HasAnswers job (cond b x y)
 either job true x y p q = p refl
 either job false x y p q = q refl
@@ -40,7 +40,8 @@ both : (b : Bool) (x y : Option (State × Output)) → IsSome x → IsSome y →
 both true x y p q = p
 both false x y p q = q
 
-first_of_two : (b c : Bool) (x y : Option (State × Output)) → (b || c) ≡ true → IsSome x → IsSome y → IsSome (cond b x (cond c y None))
+first_of_two : (b c : Bool) (x y : Option (State × Output)) → (b || c) ≡ true → IsSome x → IsSome y
+    → IsSome (cond b x (cond c y None))
 first_of_two true c x y passes p q = p
 first_of_two false true x y passes p q = q
 first_of_two false false x y passes p q = absurd cc
@@ -52,9 +53,11 @@ at_most_7 n few = elim (cases_lt n 7) [
 ]
 
 another_frame : (state : State) (step : Step) → state.skipped ≤ 7 → IsSome (other_frame_row state step)
-another_frame state step few = first_of_two (ltb state.skipped 7) (eqb state.skipped 7) _ _ (at_most_7 state.skipped few) refl refl
+another_frame state step few = first_of_two (ltb state.skipped 7) (eqb state.skipped 7) _ _
+    (at_most_7 state.skipped few) refl refl
 
-judged_frame : (state : State) (read : reads.Read) (judged : Judged) → state.skipped ≤ 7 → IsSome (judgement_row state read judged)
+judged_frame : (state : State) (read : reads.Read) (judged : Judged) → state.skipped ≤ 7
+    → IsSome (judgement_row state read judged)
 judged_frame state read (Shows raw) few = refl
 judged_frame state read (Differs point wanted found) few = refl
 judged_frame state read (WrongNumber number) few = another_frame state (WaitRead read) few
@@ -105,19 +108,23 @@ module _ (job : Job) (state : State) where
   window write (input.Time c) h = both (in_window job write c) _ _ refl refl
   window write _ h = absurd h
 
-  release_timing : (write : writes.Write) (c : ℕ) → HasAnswers job (row_to state (ReleaseTiming write) (output.Release write c))
+  release_timing : (write : writes.Write) (c : ℕ)
+      → HasAnswers job (row_to state (ReleaseTiming write) (output.Release write c))
   release_timing write c (input.Reply answer) h = refl
   release_timing write c input.Full h = refl
   release_timing write c _ h = absurd h
 
-  sending : (write : writes.Write) (c : ℕ) → HasAnswers job (row_to state (Sending write) (output.Send (asked.Write write) c))
+  sending : (write : writes.Write) (c : ℕ)
+      → HasAnswers job (row_to state (Sending write) (output.Send (asked.Write write) c))
   sending write c input.SentAll h = refl
   sending write c input.SendFailed h = refl
   sending write c _ h = absurd h
 
-  wait_write : (write : writes.Write) → state.skipped ≤ 7 → HasAnswers job (row_to state (WaitWrite write) output.Receive)
+  wait_write : (write : writes.Write) → state.skipped ≤ 7
+      → HasAnswers job (row_to state (WaitWrite write) output.Receive)
   wait_write write few (input.Frame frame) h =
-      both (eqb frame.transaction write.number) _ _ refl (another_frame (record state { step = WaitWrite write }) (WaitWrite write) few)
+      both (eqb frame.transaction write.number) _ _ refl (another_frame
+      (record state { step = WaitWrite write }) (WaitWrite write) few)
   wait_write write few input.Quiet h = refl
   wait_write write few input.Closed h = refl
   wait_write write few input.RecvFailed h = refl
@@ -138,7 +145,8 @@ module _ (job : Job) (state : State) where
   read_window read (input.Time c) h = refl
   read_window read _ h = absurd h
 
-  sending_read : (read : reads.Read) (c : ℕ) → HasAnswers job (row_to state (SendingRead read) (output.Send (asked.Read read) c))
+  sending_read : (read : reads.Read) (c : ℕ)
+      → HasAnswers job (row_to state (SendingRead read) (output.Send (asked.Read read) c))
   sending_read read c input.SentAll h = refl
   sending_read read c input.SendFailed h = refl
   sending_read read c _ h = absurd h
@@ -156,7 +164,8 @@ module _ (job : Job) (state : State) where
   saw_timing read raw (input.Time c) h = refl
   saw_timing read raw _ h = absurd h
 
-  saw_asking : (number raw c : ℕ) → HasAnswers job (row_to state SawAsking (output.Call (call.Saw c job.inverter number raw)))
+  saw_asking : (number raw c : ℕ)
+      → HasAnswers job (row_to state SawAsking (output.Call (call.Saw c job.inverter number raw)))
   saw_asking number raw c (input.Reply answer) h = refl
   saw_asking number raw c input.Full h = refl
   saw_asking number raw c _ h = absurd h
@@ -165,7 +174,8 @@ module _ (job : Job) (state : State) where
   closing input.HungUp h = refl
   closing _ h = absurd h
 
-  unfit_closing : (point : Point) (wanted found : ℕ) → HasAnswers job (row_to state (UnfitClosing point wanted found) output.HangUp)
+  unfit_closing : (point : Point) (wanted found : ℕ)
+      → HasAnswers job (row_to state (UnfitClosing point wanted found) output.HangUp)
   unfit_closing point wanted found input.HungUp h = refl
   unfit_closing point wanted found _ h = absurd h
 
@@ -174,15 +184,18 @@ module _ (job : Job) (state : State) where
   resting _ h = absurd h
 
 passing_over : (job : Job) (state : State) (step : Step)
-    → (state.skipped + 1 ≤ 7 → HasAnswers job (row_to (with_one_more_skipped state) step output.Receive)) → HasAnswers job (other_frame_row state step)
+    → (state.skipped + 1 ≤ 7 → HasAnswers job (row_to (with_one_more_skipped state) step output.Receive))
+    → HasAnswers job (other_frame_row state step)
 passing_over job state step more =
     either job (ltb state.skipped 7) _ _ (λ below. more (omega (arith, ltb-true state.skipped 7 below)))
     (λ _. either job (eqb state.skipped 7) _ _ (λ _. closing job state) (λ _. tt))
 
-judging : (job : Job) (state : State) (read : reads.Read) (judged : Judged) → HasAnswers job (judgement_row state read judged)
+judging : (job : Job) (state : State) (read : reads.Read) (judged : Judged)
+    → HasAnswers job (judgement_row state read judged)
 judging job state read (Shows raw) = saw_timing job state read raw
 judging job state read (Differs point wanted found) = unfit_closing job state point wanted found
-judging job state read (WrongNumber number) = passing_over job state (WaitRead read) (wait_read job (with_one_more_skipped state) read)
+judging job state read (WrongNumber number) = passing_over job state (WaitRead read) (wait_read job
+    (with_one_more_skipped state) read)
 judging job state read (WrongUnit unit) = closing job state
 judging job state read (Exception code) = closing job state
 judging job state read WrongReply = closing job state
@@ -226,7 +239,8 @@ rows job state ReadAsking input.Full = ended job state over.BookFull
 rows job state (ReadWindow read) (input.Time c) = sending_read job state read c
 rows job state (SendingRead read) input.SentAll = wait_read job (with_none_skipped state) read (omega arith)
 rows job state (SendingRead read) input.SendFailed = closing job state
-rows job state (WaitRead read) (input.Frame frame) = judging job state read (judgement read job.unit job.port job.rules frame)
+rows job state (WaitRead read) (input.Frame frame) = judging job state read
+    (judgement read job.unit job.port job.rules frame)
 rows job state (WaitRead read) input.Quiet = closing job state
 rows job state (WaitRead read) input.Closed = closing job state
 rows job state (WaitRead read) input.RecvFailed = closing job state
@@ -235,7 +249,8 @@ rows job state (SawTiming read raw) (input.Time c) = saw_asking job state read.n
 rows job state SawAsking (input.Reply _) = resting job state
 rows job state SawAsking input.Full = ended job state over.BookFull
 rows job state Closing input.HungUp = resting job (without_link state)
-rows job state (UnfitClosing point wanted found) input.HungUp = ended job (with_link_down state) (over.Unfit point wanted found)
+rows job state (UnfitClosing point wanted found) input.HungUp = ended job (with_link_down state)
+    (over.Unfit point wanted found)
 rows job state Resting input.Rested = ready job state
 rows job state step came = tt
 

@@ -1,10 +1,10 @@
 -- Runs of the table.
-use Rattle.std.proofs.Common.{◌≡◌, ℕ, Bool, true, false, cond, ltb, eqb, List, [], ◌∷◌, ◌++◌, Option, Some, None, refl, sym, ◌∙◌, ap, subst}
+use Rattle.std.proofs.Common.{◌≡◌, Bool, true, false, cond, ltb, eqb, List, [], ◌∷◌, ◌++◌, Option, Some, None, refl, sym, subst}
 use Rattle.std.specs.List.{AllByRecursion}
 use Rattle.plant_book.specs.declared.call.Read as reads
 use Rattle.plant_book.specs.declared.call.Reply.TheVariants as reply
 use Rattle.readback.specs.declared.judging.Judged.{Judged}
-use Rattle.readback.specs.declared.judging.Judged.TheVariants.{WrongNumber, WrongUnit, Exception, WrongReply, Differs, Shows}
+use Rattle.readback.specs.declared.judging.Judged.TheVariants.{WrongNumber}
 use Rattle.readback.specs.Judging.{judgement}
 use Rattle.inverter_worker.specs.declared.job.Job.{Job}
 use Rattle.inverter_worker.specs.declared.input.Input.{Input}
@@ -13,8 +13,7 @@ use Rattle.inverter_worker.specs.declared.output.Output.{Output}
 use Rattle.inverter_worker.specs.declared.output.Sent.{Sent}
 use Rattle.inverter_worker.specs.declared.state.State.{State}
 use Rattle.inverter_worker.specs.declared.state.Step.{Step}
-use Rattle.inverter_worker.specs.declared.state.Step.TheVariants.{Ready, Aiming, Dialing, LinkTiming, Linking, Timing, Asking, Window, ReleaseTiming, Sending, WaitWrite, ReadTiming, ReadAsking, ReadWindow, SendingRead, WaitRead, SawTiming, SawAsking, Closing, UnfitClosing, Resting, Over}
-use Rattle.plant_book.specs.declared.call.Write as writes
+use Rattle.inverter_worker.specs.declared.state.Step.TheVariants.{Ready, Aiming, Dialing, LinkTiming, Linking, Timing, Asking, Window, ReleaseTiming, Sending, WaitWrite, ReadTiming, ReadAsking, ReadWindow, SendingRead, WaitRead, SawTiming, SawAsking, Closing, UnfitClosing, Resting}
 use Rattle.inverter_worker.specs.States.{due, in_window}
 use Rattle.inverter_worker.specs.Table.{row, table, other_frame_row, judgement_row}
 use Rattle.inverter_worker.specs.Runs.{RunStep, LeadsTo, log, sends_of, IsInTime}
@@ -37,7 +36,8 @@ abbrev pub SendsInTime : Job → Option (State × Output) → Type 0
 SendsInTime job None = Unit {0}
 SendsInTime job (Some row) = AllByRecursion (IsInTime job) (sends_of row.1)
 
-either : (job : Job) (b : Bool) (x y : Option (State × Output)) → (b ≡ true → SendsInTime job x) → SendsInTime job y → SendsInTime job (cond b x y)
+either : (job : Job) (b : Bool) (x y : Option (State × Output)) → (b ≡ true → SendsInTime job x)
+    → SendsInTime job y → SendsInTime job (cond b x y)
 either job true x y p q = p refl
 either job false x y p q = q
 
@@ -45,7 +45,8 @@ passing_over : (job : Job) (state : State) (step : Step) → SendsInTime job (ot
 passing_over job state step =
     either job (ltb state.skipped 7) _ _ (λ _. tt) (either job (eqb state.skipped 7) _ _ (λ _. tt) tt)
 
-judging : (job : Job) (state : State) (read : reads.Read) (judged : Judged) → SendsInTime job (judgement_row state read judged)
+judging : (job : Job) (state : State) (read : reads.Read) (judged : Judged)
+    → SendsInTime job (judgement_row state read judged)
 judging job state read (WrongNumber number) = passing_over job state (WaitRead read)
 judging job state read _ = tt
 
@@ -81,7 +82,8 @@ rows job state ReadAsking input.Full = tt
 rows job state (ReadWindow read) (input.Time c) = (tt, tt)
 rows job state (SendingRead read) input.SentAll = tt
 rows job state (SendingRead read) input.SendFailed = tt
-rows job state (WaitRead read) (input.Frame frame) = judging job state read (judgement read job.unit job.port job.rules frame)
+rows job state (WaitRead read) (input.Frame frame) = judging job state read
+    (judgement read job.unit job.port job.rules frame)
 rows job state (WaitRead read) input.Quiet = tt
 rows job state (WaitRead read) input.Closed = tt
 rows job state (WaitRead read) input.RecvFailed = tt
@@ -94,14 +96,17 @@ rows job state (UnfitClosing point wanted found) input.HungUp = tt
 rows job state Resting input.Rested = tt
 rows job state step came = tt
 
-all_joined : (P : Sent → Type 0) (xs ys : List Sent) → AllByRecursion P xs → AllByRecursion P ys → AllByRecursion P (xs ++ ys)
+all_joined : (P : Sent → Type 0) (xs ys : List Sent) → AllByRecursion P xs → AllByRecursion P ys
+    → AllByRecursion P (xs ++ ys)
 all_joined P [] ys before behind = behind
 all_joined P (x ∷ xs) ys before behind = (before.0, all_joined P xs ys before.1 behind)
 
 -- and so does a run
-pub sent_in_time : (job : Job) (from last : State) (run : List RunStep) → LeadsTo job from run last → AllByRecursion (IsInTime job) (log run)
+pub sent_in_time : (job : Job) (from last : State) (run : List RunStep) → LeadsTo job from run last
+    → AllByRecursion (IsInTime job) (log run)
 sent_in_time job from last [] leads = tt
 sent_in_time job from last (one ∷ run) leads =
     let P : Option (State × Output) → Type 0 = λ row. SendsInTime job row in
-    all_joined (IsInTime job) (sends_of one.output) (log run) (subst P leads.1.1.0 (rows job from from.step one.input))
+    all_joined (IsInTime job) (sends_of one.output) (log run) (subst P leads.1.1.0
+    (rows job from from.step one.input))
     (sent_in_time job leads.1.0 last run leads.1.1.1)

@@ -21,7 +21,8 @@ pub record RunStep : Type 0 where
   pub input : Input
   pub output : Output
 
--- Steps lead from a state to a state: each output, and each state behind it, is the table's for the state and the input.
+-- Steps lead from a state to a state: each output, and each state behind it, is the table's for the state
+-- and the input.
 abbrev pub LeadsTo : Job → State → List RunStep → State → Type 0
 LeadsTo job from [] last = from ≡ last
 LeadsTo job from (one ∷ later) last =

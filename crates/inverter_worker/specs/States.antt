@@ -6,8 +6,8 @@ use Rattle.inverter_worker.specs.declared.state.State.{State}
 use Rattle.inverter_worker.specs.declared.state.Step.{Step}
 use Rattle.inverter_worker.specs.declared.output.Output.{Output}
 
--- Whether a limit is to be asked for at this reading of the clock: none was sent on this link, the last one was another, or
--- it is to be renewed, counted from the moment of its grant.
+-- Whether a limit is to be asked for at this reading of the clock: none was sent on this link, the last one
+-- was another, or it is to be renewed, counted from the moment of its grant.
 abbrev pub due : Job → Option writes.Write → (clock raw : ℕ) → Bool
 due job None clock raw = true
 due job (Some last) clock raw = not (last.raw == raw) || nat_le (last.at + job.renew) clock

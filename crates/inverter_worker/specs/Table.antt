@@ -1,7 +1,6 @@
--- The worker's table: for a step and an input the next step, with what changes of the state, and the output. Nothing else
--- stands in it.
-use Rattle.std.specs.Prelude.{ℕ, ◌==◌, nat_lt, Option, None, IsSome, if◌then◌else◌}
-use Rattle.limiter_num.specs.declared.rating.Point.{Point}
+-- The worker's table: for a step and an input the next step, with what changes of the state, and the output.
+-- Nothing else stands in it.
+use Rattle.std.specs.Prelude.{◌==◌, nat_lt, Option, None, IsSome, if◌then◌else◌}
 use Rattle.plant_book.specs.declared.call.Call.TheVariants as call
 use Rattle.plant_book.specs.declared.call.Reply.TheVariants as reply
 use Rattle.readback.specs.declared.judging.Judged.{Judged}
@@ -30,7 +29,8 @@ other_frame_row state step =
 -- what came to a read-back, by what it is judged
 abbrev pub judgement_row : State → reads.Read → Judged → Option (State × Output)
 judgement_row state read (Shows raw) = row_to state (SawTiming read raw) output.Now
-judgement_row state read (Differs point wanted found) = row_to state (UnfitClosing point wanted found) output.HangUp
+judgement_row state read (Differs point wanted found) =
+    row_to state (UnfitClosing point wanted found) output.HangUp
 judgement_row state read (WrongNumber number) = other_frame_row state (WaitRead read)
 judgement_row state read (WrongUnit unit) = row_to state Closing output.HangUp
 judgement_row state read (Exception code) = row_to state Closing output.HangUp
@@ -47,8 +47,10 @@ row job state Aiming (input.Goal goal) =
     else row_to state (Dialing goal.raw) output.Dial
 row job state (Dialing raw) input.DialFailed = row_to state Resting (output.Rest job.pause)
 row job state (Dialing raw) input.Dialed = row_to state (LinkTiming raw) output.Now
-row job state (LinkTiming raw) (input.Time c) = row_to state (Linking raw) (output.Call (call.Link c job.inverter))
-row job state (Linking raw) (input.Reply (reply.Linked link)) = row_to (with_link state) (Timing raw) output.Now
+row job state (LinkTiming raw) (input.Time c) =
+    row_to state (Linking raw) (output.Call (call.Link c job.inverter))
+row job state (Linking raw) (input.Reply (reply.Linked link)) =
+    row_to (with_link state) (Timing raw) output.Now
 row job state (Timing raw) (input.Time c) =
     if due job state.last c raw then row_to state Asking (output.Call (call.Ask c job.inverter raw))
     else row_to state ReadAsking (output.Call (call.Read c job.inverter))
@@ -71,8 +73,10 @@ row job state (WaitWrite write) input.BadFrame = row_to state Closing output.Han
 row job state ReadTiming (input.Time c) = row_to state ReadAsking (output.Call (call.Read c job.inverter))
 row job state ReadAsking (input.Reply (reply.ReadAs read)) = row_to state (ReadWindow read) output.Now
 row job state ReadAsking (input.Reply _) = row_to state Closing output.HangUp
-row job state (ReadWindow read) (input.Time c) = row_to state (SendingRead read) (output.Send (asked.Read read) c)
-row job state (SendingRead read) input.SentAll = row_to (with_none_skipped state) (WaitRead read) output.Receive
+row job state (ReadWindow read) (input.Time c) =
+    row_to state (SendingRead read) (output.Send (asked.Read read) c)
+row job state (SendingRead read) input.SentAll =
+    row_to (with_none_skipped state) (WaitRead read) output.Receive
 row job state (SendingRead read) input.SendFailed = row_to state Closing output.HangUp
 row job state (WaitRead read) (input.Frame frame) =
     judgement_row state read (judgement read job.unit job.port job.rules frame)

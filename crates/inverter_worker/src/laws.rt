@@ -15,8 +15,8 @@ pub fn answers_have_rows()
         → table job state came ≡ Some (next, output) → IsAnswerTo output answer → HasRow job next answer }
 {}
 
-/// A run and one step more, or another run behind it: the calls and the log go on likewise. Whatever came, each write of
-/// the log was sent within its send window.
+/// A run and one step more, or another run behind it: the calls and the log go on likewise. Whatever came, each
+/// write of the log was sent within its send window.
 pub fn runs_go_on()
     ensures more { (job : Job) (from state next : State) (run : List RunStep) (came : Input) (output : Output)
         → LeadsTo job from run state → table job state came ≡ Some (next, output)

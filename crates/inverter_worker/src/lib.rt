@@ -1,7 +1,9 @@
-//! The work of one inverter: aims at the goal that the ledger tells, asks for a limit, sends it, and reads it back.
+//! The work of one inverter: aims at the goal that the ledger tells, asks for a limit, sends it, and reads it
+//! back.
 //!
-//! This layer is a table: `specs/Table.antt` has for a step and an input the next step and the output, row by row, and
-//! `worker_step` answers by it. It does no input or output itself. What a run of the table is stands in `specs/Runs.antt`.
+//! This layer is a table: `specs/Table.antt` has for a step and an input the next step and the output, row by
+//! row, and `worker_step` answers by it. It does no input or output itself. What a run of the table is stands
+//! in `specs/Runs.antt`.
 #![tactic(auto)]
 
 mod closing;

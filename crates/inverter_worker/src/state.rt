@@ -22,8 +22,8 @@ pub struct State {
     pub skipped: u8,
 }
 
-/// What a worker does. A number that is carried along is the goal's limit as a raw percentage, or the one that a
-/// read-back showed.
+/// What a worker does. A number that is carried along is the goal's limit as a raw percentage, or the one that
+/// a read-back showed.
 #[derive(Clone, Copy, Debug, PartialEq, Eq)]
 pub enum Step {
     /// Begins a turn.

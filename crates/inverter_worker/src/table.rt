@@ -17,7 +17,8 @@ use crate::writing::{asking, release_timing, sending, timing, wait_write, window
 /// What the table has for a state and an input.
 pub(crate) type Row = Option<(State, Output)>;
 
-/// What a worker does in this state on this input, for which the table has a row: its next state, and its output.
+/// What a worker does in this state on this input, for which the table has a row: its next state, and its
+/// output.
 pub fn worker_step(job: &Job, state: State, input: Input) -> (State, Output)
     requires base { job.now.port.base ≤ 65514 }
     requires row { HasRow job.now state input }

@@ -10,8 +10,8 @@ use plant_book::{Call, Port, Read, Reply, Unit, Write};
 use plant_ledger::Goal;
 use std::test::Fail;
 
-/// An inverter of 6 kW with a floor of 10 percent, at unit 1, whose model 704 begins at register 40296, under timers of a
-/// minute.
+/// An inverter of 6 kW with a floor of 10 percent, at unit 1, whose model 704 begins at register 40296, under
+/// timers of a minute.
 fn job() -> Result<Job, Fail>
     ensures { IfOk result (λ job. job.port.base ≤ 65514) }
 {

@@ -14,7 +14,8 @@ IsRising entries = IsNonDecreasingBy (λ due. due.last) entries
 
 -- whether an entry is the write of these numbers
 abbrev pub has_numbers : (inverter link number : ℕ) → Due → Bool
-has_numbers inverter link number due = (due.inverter == inverter) && (due.link == link) && (due.number == number)
+has_numbers inverter link number due =
+    (due.inverter == inverter) && (due.link == link) && (due.number == number)
 
 -- whether the last moment of an entry is past
 abbrev pub is_past : (now : ℕ) → Due → Bool

@@ -27,8 +27,8 @@ pub struct Due {
     pub number: u16,
 }
 
-/// Writes in rising order of their last moments, at most 2,048. Contracts see the list. It takes its memory when it is
-/// made, and none later.
+/// Writes in rising order of their last moments, at most 2,048. Contracts see the list. It takes its memory
+/// when it is made, and none later.
 #[derive(Debug, Drop)]
 pub struct Expiries {
     entries: VecDeque<Due>,
@@ -78,8 +78,8 @@ impl Expiries {
         self.entries.push_back_reserved(due);
     }
 
-    /// Takes out the write of these numbers, and answers whether it was there. Of several the one with the earliest last
-    /// moment goes.
+    /// Takes out the write of these numbers, and answers whether it was there. Of several the first goes, which
+    /// has the earliest last moment.
     pub fn remove(&mut self, inverter: u8, link: u32, number: u16) -> bool
         ensures held { result ≡ list_any (has_numbers inverter link number) self.old }
         ensures left { self.new ≡ without_first (has_numbers inverter link number) self.old }
@@ -94,7 +94,8 @@ impl Expiries {
         }
     }
 
-    /// Takes out the first write, where its last moment is below now, in ms. None is taken exactly where no write is past.
+    /// Takes out the first write, where its last moment is below now, in ms. None is taken exactly where no write
+    /// is past.
     pub fn pop_past(&mut self, now: u64) -> Option<Due>
         ensures popped { result ≡ first_past now self.old }
         ensures left { self.old ≡ option_to_list result ++ self.new }

@@ -4,10 +4,11 @@ ghost use Rattle.std.specs.List.{list_any};
 ghost use Rattle.revert_timers.specs.declared.expiries.Due.{Due};
 ghost use Rattle.revert_timers.specs.Expiries.{IsRising, is_past, without_first, first_past};
 
-/// What a queue has left once an entry was taken out, and with one more entry. Where at most one entry passes a test,
-/// those that are left are those that fail it; where the first isn't past, none is.
+/// What a queue has left once an entry was taken out, and with one more entry. Where at most one entry passes a
+/// test, those that are left are those that fail it; where the first isn't past, none is.
 pub fn entries_that_are_left()
-    ensures more { (test : Due → Bool) (entries : List Due) (due : Due) → without_first test (entries ++ due ∷ [])
+    ensures more { (test : Due → Bool) (entries : List Due) (due : Due)
+        → without_first test (entries ++ due ∷ [])
         ≡ (if list_any test entries then without_first test entries ++ due ∷ []
         else if test due then entries else entries ++ due ∷ []) }
     ensures only { (test : Due → Bool) (entries : List Due) → length (filter test entries) ≤ 1

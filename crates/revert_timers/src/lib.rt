@@ -1,8 +1,8 @@
-//! The last moments of a write: until when it may act, and until when it may be held, and the queue of writes in the
-//! order in which the latter pass.
+//! The last moments of a write: until when it may act, and until when it may be held, and the queue of writes
+//! in the order in which the latter pass.
 //!
-//! The layers above rely on two formulas and one contract: an `Expiries` holds a list, and each call leaves it with one
-//! entry more at its end, or one less.
+//! The layers above rely on two formulas and one contract: an `Expiries` holds a list, and each call leaves it
+//! with one entry more at its end, or one less.
 #![tactic(auto)]
 
 mod expiries;

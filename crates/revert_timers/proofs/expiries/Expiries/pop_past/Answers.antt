@@ -5,7 +5,8 @@ use Rattle.revert_timers.proofs.expiries.Expiries.pop_past.Goals as goal
 
 pub returns-then-branch-now-clause-all : goal.returns-then-branch-now-clause-all
 returns-then-branch-now-clause-all c = λ none.
-    rw (← c.self.view_is) (later_than_first c.args.now c.in_ok-front.field-0.now _ c.self.invariant.rising c.in_ok-front.ensures.lookup c.if-branch-now.true)
+    rw (← c.self.view_is)
+    (later_than_first c.args.now c.in_ok-front.field-0.now _ c.self.invariant.rising c.in_ok-front.ensures.lookup c.if-branch-now.true)
 
 pub invariant_of-self : goal.invariant_of-self
 invariant_of-self c = record {
@@ -15,4 +16,5 @@ invariant_of-self c = record {
 }
 
 pub returns-clause-rising : goal.returns-clause-rising
-returns-clause-rising c = rw c.pop_front.ensures.rest (IsNonDecreasingBy-drop (λ due. due.last) 1 _ c.self.invariant.rising)
+returns-clause-rising c = rw c.pop_front.ensures.rest (IsNonDecreasingBy-drop
+    (λ due. due.last) 1 _ c.self.invariant.rising)
