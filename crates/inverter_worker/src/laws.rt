@@ -8,6 +8,7 @@ ghost use Rattle.inverter_worker.specs.declared.state.State.{State};
 ghost use Rattle.inverter_worker.specs.Table.{table, HasRow};
 ghost use Rattle.inverter_worker.specs.Answers.{IsAnswerTo};
 ghost use Rattle.inverter_worker.specs.Runs.{RunStep, LeadsTo, calls, log, IsInTime};
+ghost use Rattle.inverter_worker.specs.Turns.{IsWithinTurn, IsShort};
 
 /// The table has a row for each input that may come of its outputs: a worker never stands still.
 pub fn answers_have_rows()
@@ -27,4 +28,11 @@ pub fn runs_go_on()
     ensures log { (run later : List RunStep) → log (run ++ later) ≡ log run ++ log later }
     ensures in_time { (job : Job) (from last : State) (run : List RunStep) → LeadsTo job from run last
         → AllByRecursion (IsInTime job) (log run) }
+{}
+
+/// A turn is short, whatever comes: it reads the clock at most 6 times, sends at most 2 requests, and ends after at
+/// most 32 steps.
+pub fn turns_are_short()
+    ensures { (job : Job) (from last : State) (first : RunStep) (later : List RunStep)
+        → LeadsTo job from (first ∷ later) last → AllByRecursion IsWithinTurn later → IsShort (first ∷ later) }
 {}
