@@ -1,0 +1,5 @@
+pub mod States
+pub mod Table
+pub mod Answers
+pub mod Runs
+pub mod Turns
