@@ -1,0 +1,7 @@
+pub mod Writing
+pub mod Taking
+pub mod Linked
+pub mod Stages
+pub mod Going
+pub mod Stopping
+pub mod Complete

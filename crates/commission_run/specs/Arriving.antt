@@ -1,0 +1,72 @@
+-- What comes over a link, and what is done with a frame that came. No promise to a caller names this.
+use Rattle.std.specs.Prelude.{◌≡◌, ℕ, ◌<◌, List, [], ◌∷◌, ◌++◌, length, Option, Some, None, Result, Ok, Err, IsSome, option_map}
+use Rattle.std.specs.Io.KnownBytes.{Appends}
+use Rattle.world_traits.specs.Links.{Bytes, Quiet, Closed, Link, Links, IsCutShort, all_links, with_bytes, with_receipt, with_failure}
+use Rattle.mbap_frames.specs.declared.frame.Frame.{Frame}
+use Rattle.mbap_frames.specs.Frame.{IsFrame, frame_spelling}
+use Rattle.mbap_frames.specs.Stream.{IsUnfinished, HasFault, frames_spelling}
+use Rattle.commissioning.specs.declared.commission.Took.{Took}
+use Rattle.commissioning.specs.declared.found.Record702.{Record702}
+use Rattle.commissioning.specs.Stage.{Standing, found_at}
+use Rattle.commissioning.specs.Asking.{asked}
+use Rattle.commissioning.specs.Taking.{taken, answer}
+use Rattle.commissioning.specs.Runs.{request_by}
+use Rattle.commission_run.specs.declared.stop.Stop.{Stop}
+use Rattle.commission_run.specs.declared.stop.Stop.TheVariants.{WriteFailed, Refused}
+use Rattle.commission_run.specs.declared.stop.Refusal.TheVariants as by
+use Rattle.commission_run.specs.Lines.{found_text, AppendsFront}
+
+-- the links with this one up
+abbrev pub with_current : Link → Links → Links
+with_current link links = record links { current = Some link }
+
+-- What became of the bytes that were held, and of the record: a frame was taken from their front; a piece came
+-- behind what is less than a frame; a fault stands at their front; or the receive for more gave none.
+abbrev pub Arrives : Result (Option Frame) Stop → (held after : List ℕ) → (old new : Option Links) → Type 0
+Arrives (Ok (Some frame)) held after old new =
+    IsFrame frame × (held ≡ frame_spelling frame ++ after) × (new ≡ old)
+Arrives (Ok None) held after old new =
+    IsUnfinished held × (piece : List ℕ) × (0 < length piece) × (after ≡ held ++ piece)
+    × (new ≡ option_map (with_receipt (Bytes piece)) old)
+Arrives (Err (Refused (by.BadFrame fault))) held after old new = HasFault held fault × (new ≡ old)
+Arrives (Err (Refused by.Quiet)) held after old new =
+    IsUnfinished held × (new ≡ option_map (with_receipt Quiet) old)
+Arrives (Err (Refused by.Closed)) held after old new =
+    IsUnfinished held × (new ≡ option_map (with_receipt Closed) old)
+Arrives (Err (Refused by.Recv)) held after old new =
+    IsUnfinished held × (new ≡ option_map with_failure old)
+Arrives (Err _) held after old new = ⊥
+
+-- a receive gave no bytes
+abbrev pub GivesNone : Stop → (old new : Option Links) → Type 0
+GivesNone (Refused by.Quiet) old new = new ≡ option_map (with_receipt Quiet) old
+GivesNone (Refused by.Closed) old new = new ≡ option_map (with_receipt Closed) old
+GivesNone (Refused by.Recv) old new = new ≡ option_map with_failure old
+GivesNone _ old new = ⊥
+
+-- a request was cut short by a send that failed
+abbrev pub CutsShort : Stop → Option Frame → (old new : Option Links) → Type 0
+CutsShort (Refused by.Send) (Some request) old new = IsCutShort (frame_spelling request) old new
+CutsShort _ request old new = ⊥
+
+-- the line of the points that were found just now
+abbrev pub gained_text : (had found : Option Record702) → List ℕ
+gained_text None found = found_text found
+gained_text (Some had) found = []
+
+-- What became of the record and of the output by a frame that came to a standing.
+abbrev pub IsHandled : Result (Unit {0}) Stop → Standing → Frame → (old new : Option Links)
+    → (text : List ℕ) → (before after : Option (List ℕ)) → Type 0
+IsHandled (Ok _) standing frame old new text before after =
+    (took : Took) × (answer standing frame ≡ Ok took)
+    × Appends before after text
+    × (new ≡ option_map (with_bytes (frames_spelling (request_by standing frame))) old)
+IsHandled (Err WriteFailed) standing frame old new text before after =
+    IsSome (found_at (taken standing frame).stage) × (found_at standing.stage ≡ None)
+    × AppendsFront before after text × (new ≡ old)
+IsHandled (Err (Refused (by.Commission fault))) standing frame old new text before after =
+    (answer standing frame ≡ Err fault) × Appends before after text × (new ≡ old)
+IsHandled (Err (Refused by.Send)) standing frame old new text before after =
+    (request : Frame) × (request_by standing frame ≡ request ∷ [])
+    × Appends before after text × IsCutShort (frame_spelling request) old new
+IsHandled (Err _) standing frame old new text before after = ⊥

@@ -1,0 +1,5 @@
+pub mod Lines
+pub mod Course
+pub mod Ends
+pub mod Arriving
+pub mod Going

@@ -1,0 +1,21 @@
+//! Writes to a sink.
+ghost use Rattle.std.specs.Prelude.{OnErr, OnOk};
+ghost use Rattle.std.specs.Io.KnownBytes.{Appends};
+ghost use Rattle.world_traits.specs.Causes.{HasCause};
+ghost use Rattle.commission_run.specs.Lines.{AppendsFront};
+
+use world_traits::{Sink, WriteFailed};
+
+/// Writes all of the bytes.
+pub(crate) fn write_whole<O: Sink>(sink: &mut O, bytes: &[u8]) -> Result<(), WriteFailed>
+    ensures all { OnOk result (Appends (O.taken sink.old) (O.taken sink.new) bytes.now) }
+    ensures front { OnErr result (AppendsFront (O.taken sink.old) (O.taken sink.new) bytes.now) }
+    ensures cause { HasCause (O.faults sink.old) (O.faults sink.new) result }
+{
+    let mut rest = bytes;
+    while !rest.is_empty() {
+        let count = sink.write(rest)?;
+        rest = &rest[count..];
+    }
+    Ok(())
+}
