@@ -30,6 +30,8 @@ pub use link::Link;
 pub use link_log::LinkLog;
 pub use play::{Move, PlayLink};
 pub use play_dialer::PlayDialer;
+pub use rest::copy_front;
+pub use schedule::Schedule;
 pub use sink::{Sink, WriteFailed};
 pub use source::{ReadFailed, Source};
 pub use step_clock::StepClock;

@@ -48,7 +48,7 @@ impl Rest {
 }
 
 /// Copies as many bytes as both have to the front of `into`, and tells how many.
-fn copy_front(from: &[u8], into: &mut [u8]) -> usize
+pub fn copy_front(from: &[u8], into: &mut [u8]) -> usize
     ensures count { result ≡ min (length from.now) (length into.old) }
     ensures front { take result into.new ≡ take result from.now }
     ensures whole { into.new ≡ take result from.now ++ drop result into.old }

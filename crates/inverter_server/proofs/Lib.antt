@@ -1,0 +1,4 @@
+pub mod Answering
+pub mod Pieces
+pub mod Turning
+pub mod Visits
