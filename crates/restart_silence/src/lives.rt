@@ -6,8 +6,9 @@ ghost use Rattle.plant_book.specs.Answered.{IsBook, IsInRange};
 ghost use Rattle.plant_book.specs.Covered.{IsUnderCeiling, IsBackUnderCap};
 ghost use Rattle.plant_book.specs.History.{IsPast};
 ghost use Rattle.plant_ledger.specs.Opening.{open_fault, ticket_for};
-ghost use Rattle.plant_ledger.specs.Plant.{entry_of, entered, right_reply, LeavesReservations};
-ghost use Rattle.restart_silence.specs.Chain.{Begins, GoesOn, Restarts, still_live};
+ghost use Rattle.plant_book.specs.Part.{book_behind};
+ghost use Rattle.plant_ledger.specs.Plant.{right_reply, LeavesReservations};
+ghost use Rattle.restart_silence.specs.Chain.{Begins, GoesOn, Restarts, IsFirst, entry_of, entered, still_live};
 
 use plant_book::{Call, MOMENT_MAX, Site};
 use plant_ledger::{BookFull, OpenFault, Outcome, Plant};
@@ -24,18 +25,23 @@ pub enum RestartFault {
     NoMemory,
 }
 
-/// A plant over its lives, of which the last is on. Contracts see the book of the last life.
+/// A plant over its lives, of which the last is on. Contracts see the book of the last life, which keeps one book.
 #[derive(Debug, Drop)]
 pub struct Lives {
     plant: Plant,
 }
 
 impl Model for Lives {
+    ghost use Rattle.std.specs.Prelude.{[]};
     ghost use Rattle.plant_book.specs.Book.{BookRecord};
+    ghost use Rattle.plant_book.specs.Part.{book_behind};
+    ghost use Rattle.restart_silence.specs.Chain.{IsFirst};
 
     ghost Value = { BookRecord };
 
-    ghost view = { λ lives. lives.plant };
+    ghost view = { λ lives. book_behind [] lives.plant };
+
+    ghost invariant = { λ lives. IsFirst lives.plant };
 }
 
 impl Lives {
@@ -79,7 +85,8 @@ impl Lives {
 
     /// The plant of the life that is on.
     pub fn plant(&self) -> &Plant
-        ensures { result.now ≡ self.now }
+        ensures book { book_behind [] result.now ≡ self.now }
+        ensures first { IsFirst result.now }
     {
         &self.plant
     }
@@ -89,7 +96,7 @@ impl Lives {
     /// the site. The ended plant is handed back with its book.
     pub fn restart(&mut self, alloc: Global, at: u64) -> Result<Plant, RestartFault>
         requires moment { at ≤ MOMENT_MAX }
-        ensures ended { IfOk result (λ ended. ended ≡ self.old) }
+        ensures ended { IfOk result (λ ended. (book_behind [] ended ≡ self.old) × IsFirst ended) }
         ensures begun { OnOk result (self.new ≡ record { site = self.old.site; start = at; entries = [] }) }
 
         // Refused as back in time exactly where the moment is below the last one, and then nothing has
@@ -121,7 +128,9 @@ impl Lives {
 /// The plant of a new life of the site, or none where memory runs out.
 fn next_life(alloc: Global, site: &Site, at: u64) -> Option<Plant>
     requires { at ≤ MOMENT_MAX }
-    ensures { IfSome result (λ plant. plant ≡ record { site = site.now; start = at; entries = [] }) }
+    ensures begun { IfSome result
+        (λ plant. plant ≡ record { site = site.now; start = at; carry = None; entries = [] }) }
+    ensures first { IfSome result IsFirst }
 {
     let Ok(site) = site.clone() else {
         return None;
