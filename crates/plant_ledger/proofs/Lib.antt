@@ -1,1 +1,4 @@
+pub mod Accounts
+pub mod Fitting
+pub mod Following
 pub mod Kept

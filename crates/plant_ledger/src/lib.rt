@@ -5,6 +5,8 @@
 //! send one granted write, once.
 #![tactic(auto)]
 
+mod account;
+mod ledger;
 mod opening;
 mod plant;
 mod ticket;

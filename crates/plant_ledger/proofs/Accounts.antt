@@ -1,0 +1,172 @@
+-- The accounts of all inverters follow the calls.
+use Rattle.std.proofs.Common.{◌≡◌, ℕ, ◌<◌, ◌≤◌, Bool, true, false, ◌||◌, List, [], ◌∷◌, ◌++◌, length, get_or, map, take, drop, Option, Some, None, refl, sym, ap, subst, ◌∙◌, arith, inl, inr, length-set}
+use Rattle.std.specs.Prelude.{IfSome, slice_set}
+use Rattle.std.specs.List.{list_any}
+use Rattle.std.proofs.lemmas.Bool.{cases_eq}
+use Rattle.std.proofs.lemmas.List.{length-map, get_or-map, get_or-set_same, get_or-set_other}
+use Rattle.std.proofs.lemmas.List.Folds.{list_any-append}
+use Rattle.std.proofs.lemmas.List.Sums.{count_by-le-length}
+use Rattle.std.proofs.Math.Seq.{take-append_seam}
+use Rattle.plant_book.specs.declared.call.Call.{Call}
+use Rattle.plant_book.specs.declared.call.TheConstants.{MOMENT_MAX}
+use Rattle.plant_book.specs.declared.site.TheConstants.{ROOM_MAX}
+use Rattle.plant_book.specs.declared.site.Unit.{Unit as Inverter}
+use Rattle.plant_book.specs.declared.book.Entry.{Entry}
+use Rattle.plant_book.specs.Site.{SiteRecord, inverters}
+use Rattle.plant_book.specs.Book.{BookRecord}
+use Rattle.plant_book.specs.Calls.{moment, named, latest}
+use Rattle.plant_book.specs.Requests as counted
+use Rattle.plant_book.specs.Reserved.{now_of}
+use Rattle.plant_book.specs.Answer.{stops, is_stopped}
+use Rattle.plant_book.specs.Answered.{IsBook, IsNext, IsAnswer, IsOpenable, with_entries}
+use Rattle.plant_book.proofs.Steps.{latest-push}
+use Rattle.plant_book.proofs.Growth.{IsBook-push, IsBook-empty, empty_book, with_entry}
+use Rattle.uncertain_writes.proofs.Pending.{PendsOwn-answered}
+use Rattle.plant_ledger.specs.declared.account.Account.{Account}
+use Rattle.plant_ledger.specs.Account.{IsAccount, HasRoom, first_account, after_call}
+use Rattle.plant_ledger.specs.Ledger.{LedgerRecord, AreAccounts, IsLedger, account_at}
+use Rattle.plant_ledger.proofs.Following.{own_account, other_account, later_account, first_is_account}
+use Rattle.plant_ledger.proofs.Fitting.{fits_call, has_room}
+
+-- a list that was written through a slice of all of it
+pub whole : {X : Type 0} (xs ys : List X) (len : ℕ) → length xs ≡ len → take len (xs ++ drop (length xs) ys) ≡ xs
+whole xs ys len is = rw (← is) (take-append_seam xs (drop (length xs) ys))
+
+-- at a later moment
+pub later_accounts : (book : BookRecord) (now later : ℕ) (accounts : List Account) → now ≤ later → AreAccounts book now accounts
+    → AreAccounts book later (map (account_at book.site.rules later) accounts)
+later_accounts book now later accounts le are =
+    let at : Account → Account = λ account. account_at book.site.rules later account in
+    record {
+      count = length-map accounts at ∙ are.count;
+      each = λ inverter otherwise of_site.
+          subst (λ (account : Account). IsAccount book later inverter account) (sym (get_or-map at accounts inverter otherwise otherwise (omega (arith, are.count))))
+          (later_account book now later inverter (get_or accounts inverter otherwise) le (are.each inverter otherwise of_site));
+    }
+
+pub later_ledger : (book : BookRecord) (now later : ℕ) (accounts others : List Account) (stopped : Bool) → now ≤ later → later ≤ MOMENT_MAX → others ≡ map (account_at book.site.rules later) accounts
+    → IsLedger book now accounts stopped → IsLedger book later others stopped
+later_ledger book now later accounts others stopped le high are ledger = record {
+  kept = ledger.kept;
+  later = omega (arith, ledger.later);
+  high = high;
+  of_inverters = subst (λ (all : List Account). AreAccounts book later all) (sym are) (later_accounts book now later accounts le ledger.of_inverters);
+  stop = ledger.stop;
+}
+
+-- an entry that a ledger may take
+pub record MayEnter (ledger : LedgerRecord) (entry : Entry) : Type 0 where
+  pub room : length ledger.book.entries < ledger.book.site.room
+  pub next : IsNext ledger.book.site ledger.book.start ledger.book.entries entry.call
+  pub answer : IsAnswer ledger.book ledger.book.entries entry
+  pub now : moment entry.call ≡ ledger.at
+
+-- how the accounts follow one more entry
+pub record Follow (book : BookRecord) (entry : Entry) (accounts others : List Account) : Type 0 where
+  pub follows : (inverter : ℕ) (otherwise : Account) → named entry.call ≡ Some inverter
+      → others ≡ slice_set accounts inverter (after_call book.site.rules entry.call entry.reply (get_or accounts inverter otherwise))
+  pub stays : named entry.call ≡ None → others ≡ accounts
+
+module _ (book : BookRecord) (entry : Entry) (accounts others : List Account) (are : AreAccounts book (moment entry.call) accounts)
+  (right : IsBook book) (answer : IsAnswer book book.entries entry) (next : IsNext book.site book.start book.entries entry.call) where
+  next_named : (named_by : ℕ) → named entry.call ≡ Some named_by → named_by < inverters book.site
+      → (otherwise : Account) → others ≡ slice_set accounts named_by (after_call book.site.rules entry.call entry.reply (get_or accounts named_by otherwise))
+      → AreAccounts (with_entry book entry) (moment entry.call) others
+  next_named named_by is within otherwise written =
+      let now = moment entry.call in
+      let pends = PendsOwn-answered book right.answered in
+      let fits = fits_call book entry answer in
+      let account = after_call book.site.rules entry.call entry.reply (get_or accounts named_by otherwise) in
+      let below : named_by < length accounts = omega (arith, are.count) in
+      let new = own_account book entry named_by (get_or accounts named_by otherwise) (are.each named_by otherwise within) pends answer fits is in
+      subst (λ (all : List Account). AreAccounts (with_entry book entry) now all) (sym written) (record {
+        count = length-set accounts named_by account ∙ are.count;
+        each = λ inverter default of_site.
+            elim (cases_eq inverter named_by) [
+              | inl same ↦
+                  subst (λ (i : ℕ). IsAccount (with_entry book entry) now i (get_or (slice_set accounts named_by account) i default)) (sym same)
+                  (subst (λ (a : Account). IsAccount (with_entry book entry) now named_by a) (sym (get_or-set_same accounts named_by account default below)) new)
+              | inr apart ↦
+                  subst (λ (a : Account). IsAccount (with_entry book entry) now inverter a) (sym (get_or-set_other accounts named_by inverter account default apart))
+                  (other_account book entry inverter (get_or accounts inverter default) (are.each inverter default of_site) pends answer fits
+                  (λ its. apart (some_is inverter named_by (sym its ∙ is))))
+            ];
+      })
+    where
+      some_is : (i j : ℕ) → ◌≡◌ {A = Option ℕ} (Some i) (Some j) → i ≡ j
+      some_is i j is = cc
+
+  next_unnamed : named entry.call ≡ None → others ≡ accounts → AreAccounts (with_entry book entry) (moment entry.call) others
+  next_unnamed none same =
+      let pends = PendsOwn-answered book right.answered in
+      let fits = fits_call book entry answer in
+      subst (λ (all : List Account). AreAccounts (with_entry book entry) (moment entry.call) all) (sym same) (record {
+        count = are.count;
+        each = λ inverter default of_site.
+            other_account book entry inverter (get_or accounts inverter default) (are.each inverter default of_site) pends answer fits (λ its. let never = sym none ∙ its in cc);
+      })
+
+-- an account, to have one where it doesn't matter which
+abbrev any_account : Account
+any_account = record { link = 0; requests = 0; pending = None; strange = false; wish = 0; live = [] }
+
+next_accounts : (book : BookRecord) (entry : Entry) (accounts others : List Account) → AreAccounts book (moment entry.call) accounts
+    → IsBook book → IsAnswer book book.entries entry → IsNext book.site book.start book.entries entry.call → Follow book entry accounts others
+    → (who : Option ℕ) → named entry.call ≡ who → AreAccounts (with_entry book entry) (moment entry.call) others
+next_accounts book entry accounts others are right answer next follow None is = next_unnamed book entry accounts others are right answer next is (follow.stays is)
+next_accounts book entry accounts others are right answer next follow (Some inverter) is =
+    let within : inverter < inverters book.site = subst (λ (o : Option ℕ). IfSome o (λ i. i < inverters book.site)) is next.of_site in
+    next_named book entry accounts others are right answer next inverter is within any_account (follow.follows inverter any_account is)
+
+or_false : (a b : Bool) → (a || (b || false)) ≡ (a || b)
+or_false a true = refl
+or_false a false = refl
+
+stopped_next : (book : BookRecord) (entry : Entry) → is_stopped (with_entry book entry) ≡ (is_stopped book || stops entry.call)
+unfolding is_stopped
+stopped_next book entry =
+    list_any-append (λ (e : Entry). stops e.call) book.entries (entry ∷ []) ∙ or_false (list_any (λ (e : Entry). stops e.call) book.entries) (stops entry.call)
+
+-- what the ledger keeps after one more entry
+pub next_ledger : (book : BookRecord) (entry : Entry) (now : ℕ) (accounts others : List Account) (stopped after : Bool) → IsLedger book now accounts stopped → MayEnter (record { book = book; at = now }) entry
+    → Follow book entry accounts others → after ≡ (stopped || stops entry.call) → IsLedger (with_entry book entry) now others after
+unfolding now_of
+next_ledger book entry now accounts others stopped after ledger may follow stop = record {
+  kept = IsBook-push book entry ledger.kept may.room may.next may.answer;
+  later = omega (arith, latest-push book.start book.entries entry, may.now);
+  high = ledger.high;
+  of_inverters = subst (λ (at : ℕ). AreAccounts (with_entry book entry) at others) may.now
+      (next_accounts book entry accounts others (subst (λ (at : ℕ). AreAccounts book at accounts) (sym may.now) ledger.of_inverters) ledger.kept may.answer may.next follow (named entry.call) refl);
+  stop = stop ∙ ap (λ (b : Bool). b || stops entry.call) ledger.stop ∙ sym (stopped_next book entry);
+}
+
+-- no account has had as many links as a number of them can count
+few_links : (book : BookRecord) (now inverter : ℕ) (account : Account) → IsBook book → IsAccount book now inverter account → account.link < 4294967295
+unfolding counted.link_number
+few_links book now inverter account kept its =
+    omega (arith, its.link, count_by-le-length (counted.is_link inverter) book.entries, kept.room, kept.openable.checked.room_high)
+
+module _ (book : BookRecord) (entry : Entry) (now : ℕ) (accounts : List Account) (stopped : Bool) (ledger : IsLedger book now accounts stopped)
+  (may : MayEnter (record { book = book; at = now }) entry) (inverter : ℕ) (otherwise : Account) (is : named entry.call ≡ Some inverter) where
+  within : inverter < inverters book.site
+  within = subst (λ (o : Option ℕ). IfSome o (λ i. i < inverters book.site)) is may.next.of_site
+
+  pub links_left : (get_or accounts inverter otherwise).link < 4294967295
+  links_left = few_links book now inverter (get_or accounts inverter otherwise) ledger.kept (ledger.of_inverters.each inverter otherwise within)
+
+  pub room_left : HasRoom entry.reply (get_or accounts inverter otherwise)
+  room_left = has_room book entry now inverter (get_or accounts inverter otherwise) (ledger.of_inverters.each inverter otherwise within) is may.now ledger.high may.answer
+
+-- what the ledger keeps of a book without entries
+pub first_ledger : (site : SiteRecord) (start : ℕ) → IsOpenable site → start ≤ MOMENT_MAX → IsLedger (empty_book site start) start (map first_account site.units) false
+unfolding now_of latest is_stopped
+first_ledger site start openable low = record {
+  kept = IsBook-empty site start openable low;
+  later = omega arith;
+  high = low;
+  of_inverters = record {
+    count = length-map site.units first_account;
+    each = λ inverter otherwise of_site. first_is_account site start inverter otherwise of_site;
+  };
+  stop = refl;
+}

@@ -1,0 +1,16 @@
+use Rattle.std.proofs.Common.{◌≡◌, List, sym, subst, ◌∙◌, ap, map, [], false}
+use Rattle.plant_book.specs.Site.{SiteRecord}
+use Rattle.plant_book.specs.Book.{BookRecord}
+use Rattle.plant_ledger.specs.declared.account.Account.{Account}
+use Rattle.plant_ledger.specs.Account.{first_account}
+use Rattle.plant_ledger.specs.Ledger.{IsLedger}
+use Rattle.plant_ledger.proofs.Accounts.{first_ledger}
+use Rattle.plant_ledger.proofs.ledger.Ledger.new.Goals as goal
+
+pub invariant_of-result : goal.invariant_of-result
+invariant_of-result c =
+    let first = first_ledger c.args.site c.args.start c.requires.openable c.requires.start in
+    let units : c.deref.result.now ≡ c.args.site.units = c.deref.ensures.value ∙ ap (λ (site : SiteRecord). site.units) c.site.view_is in
+    let accounts : c.in_ok-accounts.accounts.items ≡ map first_account c.args.site.units = c.in_ok-accounts.ensures ∙ ap (map first_account) units in
+    subst (λ (book : BookRecord). IsLedger book c.args.start c.in_ok-accounts.accounts.items false) (sym c.in_ok-book.ensures)
+    (subst (λ (all : List Account). IsLedger (record { site = c.args.site; start = c.args.start; entries = [] }) c.args.start all false) (sym accounts) first)

@@ -1,0 +1,35 @@
+-- A book and what the ledger keeps beside it.
+use Rattle.std.specs.Prelude.{◌≡◌, ℕ, ◌<◌, ◌≤◌, Bool, List, length, map, slice_index_or}
+use Rattle.limiter_num.specs.declared.rules.Rules.{Rules}
+use Rattle.plant_book.specs.declared.call.TheConstants.{MOMENT_MAX}
+use Rattle.plant_book.specs.Site.{inverters}
+use Rattle.plant_book.specs.Book.{BookRecord}
+use Rattle.plant_book.specs.Reserved.{now_of}
+use Rattle.plant_book.specs.Answer.{is_stopped}
+use Rattle.plant_book.specs.Answered.{IsBook}
+use Rattle.uncertain_writes.specs.Live.{is_past, without}
+use Rattle.plant_ledger.specs.declared.account.Account.{Account}
+use Rattle.plant_ledger.specs.Account.{IsAccount}
+
+-- a book, and a moment from its last one on
+pub record LedgerRecord : Type 0 where
+  pub book : BookRecord
+  pub at : ℕ
+
+-- each inverter of the site has its account at this moment
+pub record AreAccounts (book : BookRecord) (now : ℕ) (accounts : List Account) : Type 0 where
+  pub count : length accounts ≡ inverters book.site
+  pub each : (inverter : ℕ) (otherwise : Account) → inverter < inverters book.site
+      → IsAccount book now inverter (slice_index_or accounts inverter otherwise)
+
+-- what the ledger keeps are the numbers of its book
+pub record IsLedger (book : BookRecord) (now : ℕ) (accounts : List Account) (stopped : Bool) : Type 0 where
+  pub kept : IsBook book
+  pub later : now_of book ≤ now
+  pub high : now ≤ MOMENT_MAX
+  pub of_inverters : AreAccounts book now accounts
+  pub stop : stopped ≡ is_stopped book
+
+-- an account at a later moment: what is past by then is gone
+abbrev pub account_at : Rules → ℕ → Account → Account
+account_at rules now account = record account { live = without (is_past rules now) account.live }

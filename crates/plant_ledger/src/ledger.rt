@@ -1,0 +1,161 @@
+//! A book, and the account of each inverter.
+ghost use Rattle.std.specs.Prelude.{◌≡◌, ℕ, ◌<◌, ◌≤◌, ◌||◌, [], ◌∷◌, ◌++◌, length, map, Some, None, IfOk, IfSome, slice_set, slice_index_or};
+ghost use Rattle.plant_book.specs.Site.{inverters};
+ghost use Rattle.plant_book.specs.Calls.{moment, named};
+ghost use Rattle.plant_book.specs.Answer.{stops, is_stopped};
+ghost use Rattle.plant_book.specs.Answered.{IsBook, IsOpenable, IsNext, IsAnswer, with_entries};
+ghost use Rattle.plant_ledger.specs.declared.account.Account.{Account as Kept};
+ghost use Rattle.plant_ledger.specs.Account.{IsAccount, HasRoom, first_account, after_call};
+ghost use Rattle.plant_ledger.specs.Ledger.{account_at};
+
+use crate::account::Account;
+use limiter_num::{NoMemory, Rules};
+use plant_book::{Book, Call, Entry, MOMENT_MAX, Site, Unit};
+use std::alloc::Global;
+use std::marker::Model;
+
+/// A book with the account of each inverter at a moment from its last one on, so that no reply walks the entries.
+#[derive(Debug, Drop)]
+pub struct Ledger {
+    book: Book,
+    moment: u64,
+    accounts: Vec<Account>,
+    stopped: bool,
+}
+
+impl Model for Ledger {
+    ghost use Rattle.plant_ledger.specs.Ledger.{LedgerRecord, IsLedger};
+
+    ghost Value = { LedgerRecord };
+
+    ghost view = { λ l. record { book = l.book; at = l.moment } };
+
+    ghost invariant = { λ l. IsLedger l.book l.moment l.accounts.items l.stopped };
+}
+
+impl Ledger {
+    /// Opens the book of a site at a moment in ms, with all memory that it will need.
+    pub fn new(alloc: Global, site: Site, start: u64) -> Result<Ledger, NoMemory>
+        requires openable { IsOpenable site }
+        requires start { start ≤ MOMENT_MAX }
+        ensures { IfOk result (λ ledger. ledger ≡ record {
+            book = record { site = site; start = start; entries = [] };
+            at = start;
+        }) }
+    {
+        let accounts = first_accounts(alloc, &site.units)?;
+        let book = Book::new(alloc, site, start)?;
+        Ok(Ledger {
+            book,
+            moment: start,
+            accounts,
+            stopped: false,
+        })
+    }
+
+    /// Goes on to a moment in ms: writes that are past by then are live no more.
+    pub fn advance(&mut self, now: u64)
+        requires later { self.old.at ≤ now }
+        requires high { now ≤ MOMENT_MAX }
+        ensures { self.new ≡ record self.old { at = now } }
+    {
+        let rules = rules_of(&self.book);
+        expire(&mut self.accounts, &rules, now);
+        self.moment = now;
+    }
+
+    /// Writes one more entry of this moment at the end, and keeps the accounts.
+    pub fn enter(&mut self, entry: Entry)
+        requires room { length self.old.book.entries < self.old.book.site.room }
+        requires next { IsNext self.old.book.site self.old.book.start self.old.book.entries entry.call }
+        requires answer { IsAnswer self.old.book self.old.book.entries entry }
+        requires now { moment entry.call ≡ self.old.at }
+        ensures { self.new ≡ record {
+            book = with_entries self.old.book (self.old.book.entries ++ entry ∷ []);
+            at = self.old.at;
+        } }
+    {
+        let rules = rules_of(&self.book);
+        follow(&mut self.accounts, &rules, &entry);
+        self.stopped = is_stopped_after(self.stopped, &entry.call);
+        self.book.push(entry);
+    }
+
+    /// The book.
+    pub fn book(&self) -> &Book
+        ensures book { result.now ≡ self.now.book }
+        ensures kept { IsBook self.now.book }
+    {
+        &self.book
+    }
+
+    /// The account of the inverter.
+    pub fn account(&self, inverter: u8) -> &Account
+        requires { inverter < inverters self.now.book.site }
+        ensures { IsAccount self.now.book self.now.at inverter result.now }
+    {
+        &self.accounts[usize::from(inverter)]
+    }
+
+    /// Whether a Stop stands in the book.
+    pub fn is_stopped(&self) -> bool
+        ensures { result ≡ is_stopped self.now.book }
+    {
+        self.stopped
+    }
+}
+
+/// The rules of the book's site.
+fn rules_of(book: &Book) -> Rules
+    ensures { result ≡ book.now.site.rules }
+{
+    let site = &book.site;
+    site.rules
+}
+
+/// The accounts of these inverters before the first call.
+fn first_accounts(alloc: Global, units: &[Unit]) -> Result<Vec<Account>, NoMemory>
+    ensures { IfOk result (λ accounts. accounts.items ≡ map first_account units.now) }
+{
+    let Ok(mut accounts) = Vec::with_capacity(alloc, units.len()) else {
+        return Err(NoMemory);
+    };
+    for unit in units {
+        accounts.push_reserved(Account::new(unit));
+    }
+    Ok(accounts)
+}
+
+/// Drops the writes of all accounts that are past by this moment, in ms.
+fn expire(accounts: &mut [Account], rules: &Rules, now: u64)
+    ensures { accounts.new ≡ map (account_at rules.now now) accounts.old }
+{
+    for account in accounts.iter_mut() {
+        account.expire(rules, now);
+    }
+}
+
+/// The account of the inverter that one more entry names follows it.
+fn follow(accounts: &mut [Account], rules: &Rules, entry: &Entry)
+    requires within { IfSome (named entry.now.call) (λ inverter. inverter < length accounts.old) }
+    requires links { (inverter : ℕ) (otherwise : Kept) → named entry.now.call ≡ Some inverter
+        → (slice_index_or accounts.old inverter otherwise).link < 4294967295 }
+    requires room { (inverter : ℕ) (otherwise : Kept) → named entry.now.call ≡ Some inverter
+        → HasRoom entry.now.reply (slice_index_or accounts.old inverter otherwise) }
+    ensures named { (inverter : ℕ) (otherwise : Kept) → named entry.now.call ≡ Some inverter
+        → accounts.new ≡ slice_set accounts.old inverter
+        (after_call rules.now entry.now.call entry.now.reply (slice_index_or accounts.old inverter otherwise)) }
+    ensures unnamed { named entry.now.call ≡ None → accounts.new ≡ accounts.old }
+{
+    if let Some(inverter) = entry.call.inverter() {
+        let account = &mut accounts[usize::from(inverter)];
+        account.follow(rules, entry);
+    }
+}
+
+/// Whether the plant is to stop after one more call.
+fn is_stopped_after(stopped: bool, call: &Call) -> bool
+    ensures { result ≡ (stopped || stops call.now) }
+{
+    stopped || matches!(call, Call::Stop { .. })
+}
