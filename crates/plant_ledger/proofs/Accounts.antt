@@ -1,6 +1,6 @@
 -- The accounts of all inverters follow the calls.
 use Rattle.std.proofs.Common.{◌≡◌, ℕ, ◌<◌, ◌≤◌, Bool, true, false, ◌||◌, List, [], ◌∷◌, ◌++◌, length, get_or, map, take, drop, Option, Some, None, refl, sym, ap, subst, ◌∙◌, arith, inl, inr, length-set}
-use Rattle.std.specs.Prelude.{IfSome, slice_set}
+use Rattle.std.specs.Prelude.{IfSome, slice_get, slice_set}
 use Rattle.std.specs.List.{list_any}
 use Rattle.std.proofs.lemmas.Bool.{cases_eq}
 use Rattle.std.proofs.lemmas.List.{length-map, get_or-map, get_or-set_same, get_or-set_other}
@@ -19,12 +19,13 @@ use Rattle.plant_book.specs.Requests as counted
 use Rattle.plant_book.specs.Reserved.{now_of}
 use Rattle.plant_book.specs.Answer.{stops, is_stopped}
 use Rattle.plant_book.specs.Answered.{IsBook, IsNext, IsAnswer, IsOpenable, with_entries}
+use Rattle.plant_book.proofs.Inverters.{mw_at-is, floor_at-is, floor_raw_at-is, full_at-is, rated_at-is, raw_at-is}
 use Rattle.plant_book.proofs.Steps.{latest-push}
 use Rattle.plant_book.proofs.Growth.{IsBook-push, IsBook-empty, empty_book, with_entry}
 use Rattle.uncertain_writes.proofs.Pending.{PendsOwn-answered}
 use Rattle.plant_ledger.specs.declared.account.Account.{Account}
 use Rattle.plant_ledger.specs.Account.{IsAccount, HasRoom, first_account, after_call}
-use Rattle.plant_ledger.specs.Ledger.{LedgerRecord, AreAccounts, IsLedger, account_at}
+use Rattle.plant_ledger.specs.Ledger.{LedgerRecord, IsUnit, AreAccounts, IsLedger, account_at}
 use Rattle.plant_ledger.proofs.Following.{own_account, other_account, later_account, first_is_account}
 use Rattle.plant_ledger.proofs.Fitting.{fits_call, has_room}
 
@@ -141,7 +142,7 @@ next_ledger book entry now accounts others stopped after ledger may follow stop 
 }
 
 -- no account has had as many links as a number of them can count
-few_links : (book : BookRecord) (now inverter : ℕ) (account : Account) → IsBook book → IsAccount book now inverter account → account.link < 4294967295
+pub few_links : (book : BookRecord) (now inverter : ℕ) (account : Account) → IsBook book → IsAccount book now inverter account → account.link < 4294967295
 unfolding counted.link_number
 few_links book now inverter account kept its =
     omega (arith, its.link, count_by-le-length (counted.is_link inverter) book.entries, kept.room, kept.openable.checked.room_high)
@@ -169,4 +170,15 @@ first_ledger site start openable low = record {
     each = λ inverter otherwise of_site. first_is_account site start inverter otherwise of_site;
   };
   stop = refl;
+}
+
+-- the numbers of an inverter's unit
+pub numbers_of : (site : SiteRecord) (inverter : ℕ) (unit : Inverter) → slice_get site.units inverter ≡ Some unit → IsUnit site inverter unit
+numbers_of site inverter unit is = record {
+  floor = floor_at-is site inverter unit is;
+  floor_raw = floor_raw_at-is site inverter unit is;
+  full = full_at-is site inverter unit is;
+  rated = rated_at-is site inverter unit is;
+  mw = mw_at-is site inverter unit is;
+  raw = raw_at-is site inverter unit is;
 }

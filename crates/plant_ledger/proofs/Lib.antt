@@ -2,3 +2,4 @@ pub mod Accounts
 pub mod Fitting
 pub mod Following
 pub mod Kept
+pub mod Sights

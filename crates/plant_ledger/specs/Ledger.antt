@@ -1,8 +1,10 @@
 -- A book and what the ledger keeps beside it.
 use Rattle.std.specs.Prelude.{◌≡◌, ℕ, ◌<◌, ◌≤◌, Bool, List, length, map, slice_index_or}
 use Rattle.limiter_num.specs.declared.rules.Rules.{Rules}
+use Rattle.limiter_num.specs.Rating as rating
 use Rattle.plant_book.specs.declared.call.TheConstants.{MOMENT_MAX}
-use Rattle.plant_book.specs.Site.{inverters}
+use Rattle.plant_book.specs.declared.site.Unit.{Unit as Inverter}
+use Rattle.plant_book.specs.Site.{SiteRecord, inverters, mw_at, floor_at, floor_raw_at, full_at, rated_at, raw_at}
 use Rattle.plant_book.specs.Book.{BookRecord}
 use Rattle.plant_book.specs.Reserved.{now_of}
 use Rattle.plant_book.specs.Answer.{is_stopped}
@@ -15,6 +17,15 @@ use Rattle.plant_ledger.specs.Account.{IsAccount}
 pub record LedgerRecord : Type 0 where
   pub book : BookRecord
   pub at : ℕ
+
+-- an inverter's numbers are those of its unit
+pub record IsUnit (site : SiteRecord) (inverter : ℕ) (unit : Inverter) : Type 0 where
+  pub floor : floor_at site inverter ≡ rating.mw unit.rating unit.floor
+  pub floor_raw : floor_raw_at site inverter ≡ unit.floor
+  pub full : full_at site inverter ≡ rating.full unit.rating
+  pub rated : rated_at site inverter ≡ rating.rated unit.rating
+  pub mw : (raw : ℕ) → mw_at site inverter raw ≡ rating.mw unit.rating raw
+  pub raw : (watts : ℕ) → raw_at site inverter watts ≡ rating.raw_at_most unit.rating watts
 
 -- each inverter of the site has its account at this moment
 pub record AreAccounts (book : BookRecord) (now : ℕ) (accounts : List Account) : Type 0 where

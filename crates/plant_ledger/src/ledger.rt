@@ -1,16 +1,16 @@
 //! A book, and the account of each inverter.
-ghost use Rattle.std.specs.Prelude.{◌≡◌, ℕ, ◌<◌, ◌≤◌, ◌||◌, [], ◌∷◌, ◌++◌, length, map, Some, None, IfOk, IfSome, slice_set, slice_index_or};
+ghost use Rattle.std.specs.Prelude.{◌≡◌, ℕ, ◌<◌, ◌≤◌, ◌||◌, [], ◌∷◌, ◌++◌, length, map, Some, None, IfOk, IfSome, slice_get, slice_set, slice_index_or};
 ghost use Rattle.plant_book.specs.Site.{inverters};
 ghost use Rattle.plant_book.specs.Calls.{moment, named};
-ghost use Rattle.plant_book.specs.Answer.{stops, is_stopped};
+ghost use Rattle.plant_book.specs.Answer.{silent_until, stops, is_stopped};
 ghost use Rattle.plant_book.specs.Answered.{IsBook, IsOpenable, IsNext, IsAnswer, with_entries};
 ghost use Rattle.plant_ledger.specs.declared.account.Account.{Account as Kept};
 ghost use Rattle.plant_ledger.specs.Account.{IsAccount, HasRoom, first_account, after_call};
-ghost use Rattle.plant_ledger.specs.Ledger.{account_at};
+ghost use Rattle.plant_ledger.specs.Ledger.{IsUnit, account_at};
 
 use crate::account::Account;
 use limiter_num::{NoMemory, Rules};
-use plant_book::{Book, Call, Entry, MOMENT_MAX, Site, Unit};
+use plant_book::{Book, Call, Entry, MOMENT_MAX, Policy, Site, Unit};
 use std::alloc::Global;
 use std::marker::Model;
 
@@ -89,10 +89,65 @@ impl Ledger {
         &self.book
     }
 
+    /// How many inverters the site has.
+    pub fn inverters(&self) -> u8
+        ensures count { result ≡ inverters self.now.book.site }
+        ensures openable { IsOpenable self.now.book.site }
+    {
+        self.accounts.len() as u8
+    }
+
+    /// The last moment at which earlier lives may still act, in ms.
+    pub fn silent_until(&self) -> u64
+        ensures { result ≡ silent_until self.now.book }
+    {
+        let book = &self.book;
+        book.start + rules_of(book).reach()
+    }
+
+    /// The rules of the site.
+    pub fn rules(&self) -> Rules
+        ensures { result ≡ self.now.book.site.rules }
+    {
+        rules_of(&self.book)
+    }
+
+    /// The cap of the site, in mW.
+    pub fn cap(&self) -> u64
+        ensures { result ≡ self.now.book.site.cap }
+    {
+        cap_of(&self.book)
+    }
+
+    /// The policy of the site.
+    pub fn policy(&self) -> Policy
+        ensures { result ≡ self.now.book.site.policy }
+    {
+        policy_of(&self.book)
+    }
+
+    /// The moment of the accounts, in ms.
+    pub fn now(&self) -> u64
+        ensures now { result ≡ self.now.at }
+        ensures high { self.now.at ≤ MOMENT_MAX }
+    {
+        self.moment
+    }
+
+    /// The inverter of this number.
+    pub fn unit(&self, inverter: u8) -> &Unit
+        requires { inverter < inverters self.now.book.site }
+        ensures unit { slice_get self.now.book.site.units inverter ≡ Some result.now }
+        ensures numbers { IsUnit self.now.book.site inverter result.now }
+    {
+        unit_of(&self.book, inverter)
+    }
+
     /// The account of the inverter.
     pub fn account(&self, inverter: u8) -> &Account
         requires { inverter < inverters self.now.book.site }
-        ensures { IsAccount self.now.book self.now.at inverter result.now }
+        ensures account { IsAccount self.now.book self.now.at inverter result.now }
+        ensures links { result.now.link < 4294967295 }
     {
         &self.accounts[usize::from(inverter)]
     }
@@ -111,6 +166,31 @@ fn rules_of(book: &Book) -> Rules
 {
     let site = &book.site;
     site.rules
+}
+
+/// The cap of the book's site, in mW.
+fn cap_of(book: &Book) -> u64
+    ensures { result ≡ book.now.site.cap }
+{
+    let site = &book.site;
+    site.cap
+}
+
+/// The policy of the book's site.
+fn policy_of(book: &Book) -> Policy
+    ensures { result ≡ book.now.site.policy }
+{
+    let site = &book.site;
+    site.policy
+}
+
+/// The inverter of this number.
+fn unit_of(book: &Book, inverter: u8) -> &Unit
+    requires { inverter < inverters book.now.site }
+    ensures { slice_get book.now.site.units inverter ≡ Some result.now }
+{
+    let site = &book.site;
+    &site.units[usize::from(inverter)]
 }
 
 /// The accounts of these inverters before the first call.

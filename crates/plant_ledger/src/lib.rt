@@ -9,6 +9,9 @@ mod account;
 mod ledger;
 mod opening;
 mod plant;
+mod replies;
+mod reserved;
+mod shares;
 mod ticket;
 
 pub use opening::OpenFault;

@@ -1,0 +1,7 @@
+use Rattle.std.proofs.Common.{◌≡◌, map}
+use Rattle.std.specs.List.{range_with_len}
+use Rattle.plant_book.specs.Policy.{claim_of}
+use Rattle.plant_ledger.proofs.ledger.Ledger.claims.Given as goal
+
+abbrev pub invariant-loop-inverter : goal.invariant-loop-inverter
+invariant-loop-inverter l = l.claims.items ≡ map (claim_of l.self.book) (range_with_len 0 l.inverter)

@@ -1,0 +1,68 @@
+//! What the policy allows, by the accounts.
+ghost use Rattle.std.specs.Prelude.{◌≡◌, ◌<◌, if◌then◌else◌};
+ghost use Rattle.limiter_num.specs.Rating.{mw, rated};
+ghost use Rattle.plant_book.specs.Site.{inverters};
+ghost use Rattle.share_policy.specs.Claims.{IsFeasible};
+ghost use Rattle.plant_book.specs.Policy as rule;
+
+use crate::account::Account;
+use crate::ledger::Ledger;
+use arrayvec::ArrayVec;
+use plant_book::{Claim, INVERTERS_MAX, Policy, Unit};
+use share_policy::level;
+
+impl Ledger {
+    /// What the share of the inverter goes by.
+    #[tactic(auto, unfolding(plant_book::specs::Policy::trusted))]
+    fn claim(&self, inverter: u8) -> Claim
+        requires { inverter < inverters self.now.book.site }
+        ensures { result ≡ rule.claim_of self.now.book inverter }
+    {
+        let unit = self.unit(inverter);
+        let account = self.account(inverter);
+        Claim {
+            floor: unit.rating.mw(unit.floor),
+            wish: account.wish,
+            rated: trusted(unit, account),
+        }
+    }
+
+    /// The claims of all inverters in the order of their numbers.
+    fn claims(&self) -> ArrayVec<Claim, INVERTERS_MAX>
+        ensures claims { result.items ≡ rule.claims self.now.book }
+        ensures feasible { IsFeasible self.now.book.site.cap (rule.claims self.now.book) }
+    {
+        let mut claims = ArrayVec::new();
+        for inverter in 0..self.inverters() {
+            claims.push(self.claim(inverter));
+        }
+        claims
+    }
+
+    /// The greatest limit that the policy allows the inverter, in mW.
+    #[tactic(auto, unfolding(plant_book::specs::Policy::target))]
+    pub fn target(&self, inverter: u8) -> u64
+        requires { inverter < inverters self.now.book.site }
+        ensures { result ≡ rule.target self.now.book inverter }
+    {
+        let claim = self.claim(inverter);
+        match self.policy() {
+            Policy::Open => claim.rated,
+            Policy::Fair => {
+                let level = level(self.cap(), self.claims().as_slice());
+                share_policy::target(Policy::Fair, level, &claim)
+            }
+        }
+    }
+}
+
+/// The rating that the policy goes by, in mW: the floor for a strange inverter.
+fn trusted(unit: &Unit, account: &Account) -> u64
+    ensures { result ≡ (if account.now.strange then mw unit.now.rating unit.now.floor else rated unit.now.rating) }
+{
+    if account.strange {
+        unit.rating.mw(unit.floor)
+    } else {
+        unit.rating.mw(unit.rating.full())
+    }
+}
