@@ -69,7 +69,7 @@ pub record Follow (book : BookRecord) (entry : Entry) (accounts others : List Ac
   pub stays : named entry.call ≡ None → others ≡ accounts
 
 module _ (book : BookRecord) (entry : Entry) (accounts others : List Account) (are : AreAccounts book (moment entry.call) accounts)
-  (right : IsBook book) (answer : IsAnswer book book.entries entry) (next : IsNext book.site book.start book.entries entry.call) where
+    (right : IsBook book) (answer : IsAnswer book book.entries entry) (next : IsNext book.site book.start book.entries entry.call) where
   next_named : (named_by : ℕ) → named entry.call ≡ Some named_by → named_by < inverters book.site
       → (otherwise : Account) → others ≡ slice_set accounts named_by (after_call book.site.rules entry.call entry.reply (get_or accounts named_by otherwise))
       → AreAccounts (with_entry book entry) (moment entry.call) others
@@ -148,7 +148,7 @@ few_links book now inverter account kept its =
     omega (arith, its.link, count_by-le-length (counted.is_link inverter) book.entries, kept.room, kept.openable.checked.room_high)
 
 module _ (book : BookRecord) (entry : Entry) (now : ℕ) (accounts : List Account) (stopped : Bool) (ledger : IsLedger book now accounts stopped)
-  (may : MayEnter (record { book = book; at = now }) entry) (inverter : ℕ) (otherwise : Account) (is : named entry.call ≡ Some inverter) where
+    (may : MayEnter (record { book = book; at = now }) entry) (inverter : ℕ) (otherwise : Account) (is : named entry.call ≡ Some inverter) where
   within : inverter < inverters book.site
   within = subst (λ (o : Option ℕ). IfSome o (λ i. i < inverters book.site)) is may.next.of_site
 

@@ -237,7 +237,7 @@ other_call rules inverter account (calls.Tick at) reply differs fits = other_tic
 other_call rules inverter account (calls.Stop at) reply differs fits = other_stop rules inverter at account reply fits
 
 module _ (book : BookRecord) (entry : Entry) (inverter : ℕ) (account : Account) (its : IsAccount book (moment entry.call) inverter account)
-  (pends : PendsOwn book.entries) (answer : IsAnswer book book.entries entry) (fits : IsReplyTo entry.call entry.reply) where
+    (pends : PendsOwn book.entries) (answer : IsAnswer book book.entries entry) (fits : IsReplyTo entry.call entry.reply) where
   -- the account of the inverter that one more entry names
   pub own_account : named entry.call ≡ some inverter
       → IsAccount (with_entries book (book.entries ++ entry ∷ [])) (moment entry.call) inverter (after_call book.site.rules entry.call entry.reply account)

@@ -1,4 +1,5 @@
 pub mod Accounts
+pub mod Entering
 pub mod Fitting
 pub mod Following
 pub mod Kept

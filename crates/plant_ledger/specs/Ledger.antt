@@ -44,3 +44,8 @@ pub record IsLedger (book : BookRecord) (now : ℕ) (accounts : List Account) (s
 -- an account at a later moment: what is past by then is gone
 abbrev pub account_at : Rules → ℕ → Account → Account
 account_at rules now account = record account { live = without (is_past rules now) account.live }
+
+-- a ledger at the last moment of its book
+pub record IsAtLast (ledger : LedgerRecord) : Type 0 where
+  pub kept : IsBook ledger.book
+  pub last : ledger.at ≡ now_of ledger.book

@@ -1,5 +1,5 @@
 //! A book, and the account of each inverter.
-ghost use Rattle.std.specs.Prelude.{◌≡◌, ℕ, ◌<◌, ◌≤◌, ◌||◌, [], ◌∷◌, ◌++◌, length, map, Some, None, IfOk, IfSome, slice_get, slice_set, slice_index_or};
+ghost use Rattle.std.specs.Prelude.{◌≡◌, ℕ, ◌<◌, ◌≤◌, ◌^◌, ◌||◌, [], ◌∷◌, ◌++◌, length, map, Some, None, IfOk, IfSome, slice_get, slice_set, slice_index_or};
 ghost use Rattle.plant_book.specs.Site.{inverters};
 ghost use Rattle.plant_book.specs.Calls.{moment, named};
 ghost use Rattle.plant_book.specs.Answer.{silent_until, stops, is_stopped};
@@ -39,8 +39,8 @@ impl Ledger {
         requires openable { IsOpenable site }
         requires start { start ≤ MOMENT_MAX }
         ensures { IfOk result (λ ledger. ledger ≡ record {
-            book = record { site = site; start = start; entries = [] };
-            at = start;
+          book = record { site = site; start = start; entries = [] };
+          at = start;
         }) }
     {
         let accounts = first_accounts(alloc, &site.units)?;
@@ -71,8 +71,8 @@ impl Ledger {
         requires answer { IsAnswer self.old.book self.old.book.entries entry }
         requires now { moment entry.call ≡ self.old.at }
         ensures { self.new ≡ record {
-            book = with_entries self.old.book (self.old.book.entries ++ entry ∷ []);
-            at = self.old.at;
+          book = with_entries self.old.book (self.old.book.entries ++ entry ∷ []);
+          at = self.old.at;
         } }
     {
         let rules = rules_of(&self.book);
@@ -114,7 +114,8 @@ impl Ledger {
 
     /// The cap of the site, in mW.
     pub fn cap(&self) -> u64
-        ensures { result ≡ self.now.book.site.cap }
+        ensures cap { result ≡ self.now.book.site.cap }
+        ensures high { result ≤ 10 ^ 14 }
     {
         cap_of(&self.book)
     }

@@ -9,13 +9,11 @@ ghost use Rattle.plant_ledger.specs.Opening.{open_fault, ticket_for};
 ghost use Rattle.plant_ledger.specs.Release.{back_of};
 ghost use Rattle.plant_ledger.specs.Plant.{entry_of, entered, right_reply, IsSafeLife, LeavesReservations};
 
+use crate::ledger::Ledger;
 use crate::opening::{OpenFault, refuse};
 use crate::ticket::{Ticket, ticket_with};
 use limiter_num::NoMemory;
-use plant_book::{
-    Book, Call, Entry, MOMENT_MAX, Reply, Site, Write, answer, goal_plain, is_stopped,
-    reserved_plain, total_plain,
-};
+use plant_book::{Call, Entry, MOMENT_MAX, Reply, Site, Write};
 use std::alloc::Global;
 use std::marker::Model;
 
@@ -46,21 +44,21 @@ pub struct Goal {
     pub stop: bool,
 }
 
-/// The ledger of one plant. It keeps the book, and computes each reply from the whole of it.
+/// The ledger of one plant. It keeps the book, and beside it what the replies go by.
 #[derive(Debug, Drop)]
 pub struct Plant {
-    book: Book,
+    ledger: Ledger,
 }
 
 impl Model for Plant {
     ghost use Rattle.plant_book.specs.Book.{BookRecord};
-    ghost use Rattle.plant_book.specs.Answered.{IsBook};
+    ghost use Rattle.plant_ledger.specs.Ledger.{IsAtLast};
 
     ghost Value = { BookRecord };
 
-    ghost view = { λ p. p.book };
+    ghost view = { λ p. p.ledger.book };
 
-    ghost invariant = { λ p. IsBook p.book };
+    ghost invariant = { λ p. IsAtLast p.ledger };
 }
 
 impl Plant {
@@ -78,11 +76,11 @@ impl Plant {
             ⊎ ((fault ≡ OpenFault.NoMemory) × (open_fault site ≡ None))) }
     {
         refuse(&site)?;
-        let book = match Book::new(alloc, site, start) {
-            Ok(book) => book,
+        let ledger = match Ledger::new(alloc, site, start) {
+            Ok(ledger) => ledger,
             Err(NoMemory) => return Err(OpenFault::NoMemory),
         };
-        Ok(Plant { book })
+        Ok(Plant { ledger })
     }
 
     /// Enters a call with the greater of its moment and the last moment, and answers it. A Want wishes for at
@@ -138,9 +136,10 @@ impl Plant {
         ensures reserved { LeavesReservations self.old (entry_of self.old call result) self.new }
         ensures kept { IsBook self.new }
     {
-        let call = call.at_moment(call.at().max(self.book.latest()));
-        let reply = answer(&self.book, &call);
-        self.book.push(Entry { call, reply });
+        let call = call.at_moment(call.at().max(self.ledger.now()));
+        self.ledger.advance(call.at());
+        let reply = self.ledger.answer(&call);
+        self.ledger.enter(Entry { call, reply });
         reply
     }
 
@@ -188,9 +187,9 @@ impl Plant {
         ensures stop { result.stop ≡ is_stopped self.now }
     {
         Goal {
-            raw: goal_plain(&self.book, inverter),
+            raw: self.ledger.goal(inverter),
             reserved: self.reserved(inverter),
-            stop: is_stopped(&self.book),
+            stop: self.ledger.is_stopped(),
         }
     }
 
@@ -199,21 +198,21 @@ impl Plant {
         requires { inverter < inverters self.now.site }
         ensures { result ≡ sums.reserved self.now inverter }
     {
-        reserved_plain(&self.book, inverter)
+        self.ledger.reserved(inverter)
     }
 
     /// What is reserved in all at the last moment, in mW.
     pub fn total(&self) -> u64
         ensures { result ≡ sums.total self.now }
     {
-        total_plain(&self.book)
+        self.ledger.total()
     }
 
     /// What of the cap isn't reserved at the last moment, in mW.
     pub fn unreserved(&self) -> u64
         ensures { result ≡ sums.unreserved self.now }
     {
-        self.site().cap.saturating_sub(self.total())
+        self.ledger.unreserved()
     }
 
     /// The last moment: that of the last call, or the start where there is none, in ms.
@@ -221,7 +220,7 @@ impl Plant {
         ensures moment { result ≡ sums.now_of self.now }
         ensures kept { IsBook self.now }
     {
-        self.book.latest()
+        self.ledger.now()
     }
 
     /// How many calls were entered.
@@ -230,7 +229,7 @@ impl Plant {
         ensures within { result ≤ self.now.site.room }
         ensures kept { IsBook self.now }
     {
-        let book = &self.book;
+        let book = self.ledger.book();
         book.entries.len() as u32
     }
 
@@ -239,7 +238,7 @@ impl Plant {
         requires { place < length self.now.entries }
         ensures { slice_get self.now.entries place ≡ Some result }
     {
-        let book = &self.book;
+        let book = self.ledger.book();
         book.entries[place as usize]
     }
 
@@ -247,7 +246,7 @@ impl Plant {
     pub fn site(&self) -> &Site
         ensures { result.now ≡ self.now.site }
     {
-        let book = &self.book;
+        let book = self.ledger.book();
         &book.site
     }
 
@@ -255,7 +254,7 @@ impl Plant {
     pub fn start(&self) -> u64
         ensures { result ≡ self.now.start }
     {
-        let book = &self.book;
+        let book = self.ledger.book();
         book.start
     }
 }

@@ -3,6 +3,7 @@ ghost use Rattle.std.specs.Prelude.{◌≡◌, ◌<◌, IfSome, Some};
 ghost use Rattle.plant_book.specs.Calls.{moment, named};
 ghost use Rattle.plant_book.specs.Site.{inverters};
 ghost use Rattle.plant_book.specs.Writes.{live};
+ghost use Rattle.plant_book.specs.Reserved.{now_of};
 ghost use Rattle.plant_book.specs.Answer as rule;
 
 use crate::ledger::Ledger;
@@ -36,6 +37,18 @@ impl Ledger {
             Call::Tick { .. } => Reply::Total(self.total()),
             Call::Want { .. } | Call::Stop { .. } => Reply::Taken,
         }
+    }
+
+    /// The raw percentage that the inverter may aim at.
+    #[tactic(auto, unfolding(plant_book::specs::Answer::goal_raw))]
+    pub fn goal(&self, inverter: u8) -> u16
+        requires of_site { inverter < inverters self.now.book.site }
+        requires last { self.now.at ≡ now_of self.now.book }
+        ensures { result ≡ rule.goal_raw self.now.book inverter }
+    {
+        let most = self.reserved(inverter) + self.unreserved();
+        let rating = &self.unit(inverter).rating;
+        rating.raw_at_most(self.target(inverter).min(most))
     }
 
     /// The reply to an Ask: a link with requests left is wanted.

@@ -33,7 +33,8 @@ impl Ledger {
     /// What of the cap isn't reserved, in mW.
     #[tactic(auto, unfolding(plant_book::specs::Reserved::unreserved_at))]
     pub fn unreserved(&self) -> u64
-        ensures { result ≡ sums.unreserved_at self.now.book self.now.at }
+        ensures watts { result ≡ sums.unreserved_at self.now.book self.now.at }
+        ensures below { result ≤ 10 ^ 14 }
     {
         self.cap().saturating_sub(self.total())
     }

@@ -1,5 +1,5 @@
 //! The list of live writes.
-ghost use Rattle.std.specs.Prelude.{◌≡◌, ◌+◌, ◌*◌, ◌^◌, ◌≤◌, ◌<◌, ◌↔◌, [], ◌∷◌, ◌++◌, Some, List, length, filter, fold, map, max, IsOk, OnOk, OnErr, IfErr};
+ghost use Rattle.std.specs.Prelude.{◌≡◌, ◌+◌, ◌*◌, ◌^◌, ◌≤◌, ◌<◌, ◌↔◌, nat_le, [], ◌∷◌, ◌++◌, Some, List, length, filter, fold, map, max, IsOk, OnOk, OnErr, IfErr};
 ghost use Rattle.std.specs.List.{list_any};
 ghost use Rattle.limiter_num.specs.Rating.{mw};
 ghost use Rattle.plant_book.specs.Writes.{frees};
@@ -100,6 +100,13 @@ impl Live {
         ensures { result ≡ length self.now }
     {
         self.writes.len() as u8
+    }
+
+    /// Whether the list has 32 writes.
+    pub fn is_full(&self) -> bool
+        ensures { result ≡ nat_le live_max (length self.now) }
+    {
+        self.writes.is_full()
     }
 
     /// Whether the list has a write of this link and number.

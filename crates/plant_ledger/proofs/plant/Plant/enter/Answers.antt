@@ -1,81 +1,67 @@
 -- The entry is the call as it is entered with its reply, and the book with it is a book again.
-use Rattle.std.proofs.Common.{◌≡◌, ℕ, ◌<◌, ◌≤◌, max, length, sym, ap, subst, ◌∙◌}
+use Rattle.std.proofs.Common.{◌≡◌, ℕ, ◌<◌, sym, ap, subst, ◌∙◌}
 use Rattle.std.specs.Prelude.{IfSome}
 use Rattle.plant_book.specs.declared.call.Call.{Call}
-use Rattle.plant_book.specs.declared.call.TheConstants.{MOMENT_MAX}
-use Rattle.plant_book.specs.declared.call.Reply.{Reply}
-use Rattle.plant_book.specs.declared.book.Entry.{Entry}
 use Rattle.plant_book.specs.Site.{inverters}
 use Rattle.plant_book.specs.Book.{BookRecord}
-use Rattle.plant_book.specs.Calls.{moment, at_moment, named, entered}
-use Rattle.plant_book.specs.Reserved.{now_of}
+use Rattle.plant_book.specs.Calls.{moment, named, entered}
 use Rattle.plant_book.specs.Answer.{reply_to}
-use Rattle.plant_book.specs.Answered.{IsNext, IsBook, IsInRange}
-use Rattle.plant_book.proofs.Lifetime.{lives_on, changes_nothing}
-use Rattle.plant_ledger.specs.Plant.{LeavesReservations}
-use Rattle.plant_book.proofs.Growth.{IsNext-entered, IsBook-push, with_entry}
+use Rattle.plant_book.specs.Answered.{IsBook, IsNext}
+use Rattle.plant_book.proofs.Growth.{with_entry}
+use Rattle.plant_ledger.specs.Ledger.{LedgerRecord}
+use Rattle.plant_ledger.proofs.Entering.{IsTaken, call_is, next, entered_is, reply_is, at_last, leaves}
 use Rattle.plant_ledger.proofs.plant.Plant.enter.Goals as goal
 
--- what the code computes is the call as it is entered
-entered-is : (book : BookRecord) (call moved : Call) (at own last : ℕ) → own ≡ moment call → last ≡ now_of book → at ≡ max own last → moved ≡ at_moment at call → moved ≡ entered book.start book.entries call
-unfolding now_of
-entered-is book call moved at own last o l a m = m ∙ ap (λ (n : ℕ). at_moment n call) (rw (← o, ← l) a)
+pub enter-requires-clause-next : goal.enter-requires-clause-next
+enter-requires-clause-next c =
+    let ledger = c.self.inside.ledger in
+    let book = c.args.self.now in
+    let is : c.at_moment-call.result ≡ entered book.start book.entries c.args.call =
+    subst (λ (b : BookRecord). c.at_moment-call.result ≡ entered b.start b.entries c.args.call) c.self.view_is
+    (call_is ledger c.args.call c.at_moment-call.result c.max.result c.at.result c.now.result c.at.ensures c.now.ensures.now c.self.invariant c.max.ensures c.at_moment-call.ensures) in
+    let taken : IsTaken book c.args.call c.at_moment-call.result = record {
+      is = is;
+      kept = subst IsBook c.self.view_is c.self.invariant.kept;
+      high = c.requires.moment;
+      of_site = c.requires.of_site;
+      in_range = c.requires.in_range;
+      room = c.requires.room;
+    } in
+    let same : book ≡ c.advance.new.self.book = sym (ap (λ (l : LedgerRecord). l.book) c.advance.ensures ∙ c.self.view_is) in
+    subst (λ (b : BookRecord). IsNext b.site b.start b.entries c.at_moment-call.result) same (next book c.args.call c.at_moment-call.result taken)
 
-next : (book : BookRecord) (call moved : Call) → moved ≡ entered book.start book.entries call → IsBook book → moment call ≤ MOMENT_MAX → IfSome (named call) (λ inverter. inverter < inverters book.site) → IsInRange call
-    → IsNext book.site book.start book.entries moved
-next book call moved is kept high of_site in_range = subst (λ (m : Call). IsNext book.site book.start book.entries m) (sym is) (IsNext-entered book call kept high of_site in_range)
+module _ (c : goal.After-enter) where
+  taken : IsTaken c.args.self.now c.args.call c.at_moment-call.result
+  taken = record {
+    is = subst (λ (b : BookRecord). c.at_moment-call.result ≡ entered b.start b.entries c.args.call) c.self.view_is
+        (call_is c.self.inside.ledger c.args.call c.at_moment-call.result c.max.result c.at.result c.now.result c.at.ensures c.now.ensures.now c.self.invariant c.max.ensures c.at_moment-call.ensures);
+    kept = subst IsBook c.self.view_is c.self.invariant.kept;
+    high = c.requires.moment;
+    of_site = c.requires.of_site;
+    in_range = c.requires.in_range;
+    room = c.requires.room;
+  }
 
-pub answer-reply-requires-clause-next : goal.answer-reply-requires-clause-next
-answer-reply-requires-clause-next c =
-    let book = c.self.inside.book in
-    let is = entered-is book c.args.call c.at_moment-call.result c.max.result c.at.result c.latest.result c.at.ensures c.latest.ensures c.max.ensures c.at_moment-call.ensures in
-    next book c.args.call c.at_moment-call.result is c.self.invariant c.requires.moment
-    (subst (λ (b : BookRecord). IfSome (named c.args.call) (λ inverter. inverter < inverters b.site)) (sym c.self.view_is) c.requires.of_site) c.requires.in_range
+  right : c.answer-reply.result ≡ reply_to c.args.self.now c.at_moment-call.result
+  right = c.answer-reply.ensures ∙ ap (λ (ledger : LedgerRecord). reply_to ledger.book c.at_moment-call.result) c.advance.ensures ∙ ap (λ (b : BookRecord). reply_to b c.at_moment-call.result) c.self.view_is
+
+  written : c.enter.new.self ≡ record { book = with_entry c.args.self.now (record { call = c.at_moment-call.result; reply = c.answer-reply.result }); at = moment c.at_moment-call.result }
+  written =
+      let after : LedgerRecord → LedgerRecord = λ ledger. record { book = with_entry ledger.book (record { call = c.at_moment-call.result; reply = c.answer-reply.result }); at = ledger.at } in
+      c.enter.ensures ∙ ap after c.advance.ensures ∙ ap (λ (b : BookRecord). after (record { book = b; at = c.at-2.result })) c.self.view_is
+      ∙ ap (λ (n : ℕ). after (record { book = c.args.self.now; at = n })) c.at-2.ensures
 
 pub invariant_of-self : goal.invariant_of-self
-invariant_of-self c =
-    let book = c.self.inside.book in
-    let call = c.at_moment-call.result in
-    let entry : Entry = record { call = call; reply = c.answer-reply.result } in
-    let is = entered-is book c.args.call call c.max.result c.at.result c.latest.result c.at.ensures c.latest.ensures c.max.ensures c.at_moment-call.ensures in
-    let may = next book c.args.call call is c.self.invariant c.requires.moment
-    (subst (λ (b : BookRecord). IfSome (named c.args.call) (λ inverter. inverter < inverters b.site)) (sym c.self.view_is) c.requires.of_site) c.requires.in_range in
-    let room : length book.entries < book.site.room = subst (λ (b : BookRecord). length b.entries < b.site.room) (sym c.self.view_is) c.requires.room in
-    subst IsBook (sym c.push.ensures) (IsBook-push book entry c.self.invariant room may c.answer-reply.ensures)
+invariant_of-self c = at_last c.args.self.now c.args.call c.at_moment-call.result c.answer-reply.result c.enter.new.self (taken c) (right c) (written c)
 
 pub returns-clause-entered : goal.returns-clause-entered
-returns-clause-entered c =
-    let book = c.self.inside.book in
-    let reply = c.answer-reply.result in
-    let is = entered-is book c.args.call c.at_moment-call.result c.max.result c.at.result c.latest.result c.at.ensures c.latest.ensures c.max.ensures c.at_moment-call.ensures in
-    c.push.ensures ∙ ap (λ (m : Call). with_entry book (record { call = m; reply = reply })) is
-    ∙ ap (λ (b : BookRecord). with_entry b (record { call = entered b.start b.entries c.args.call; reply = reply })) c.self.view_is
+returns-clause-entered c = entered_is c.args.self.now c.args.call c.at_moment-call.result c.answer-reply.result c.enter.new.self (taken c) (right c) (written c)
 
 pub returns-clause-reply : goal.returns-clause-reply
-returns-clause-reply c =
-    let book = c.self.inside.book in
-    let is = entered-is book c.args.call c.at_moment-call.result c.max.result c.at.result c.latest.result c.at.ensures c.latest.ensures c.max.ensures c.at_moment-call.ensures in
-    c.answer-reply.ensures ∙ ap (reply_to book) is ∙ ap (λ (b : BookRecord). reply_to b (entered b.start b.entries c.args.call)) c.self.view_is
+returns-clause-reply c = reply_is c.args.self.now c.args.call c.at_moment-call.result c.answer-reply.result c.enter.new.self (taken c) (right c) (written c)
 
 pub returns-clause-kept : goal.returns-clause-kept
-returns-clause-kept c = invariant_of-self c
-
-leaves : (book : BookRecord) (call moved : Call) (reply : Reply) → moved ≡ entered book.start book.entries call → IsNext book.site book.start book.entries moved → reply ≡ reply_to book moved
-    → LeavesReservations book (record { call = moved; reply = reply }) (with_entry book (record { call = moved; reply = reply }))
-unfolding now_of
-leaves book call moved reply is may right =
-    let entry : Entry = record { call = moved; reply = reply } in
-    record { lifetime = lives_on book entry right may.later; refused = changes_nothing book entry right may.later }
+returns-clause-kept c = (at_last c.args.self.now c.args.call c.at_moment-call.result c.answer-reply.result c.enter.new.self (taken c) (right c) (written c)).kept
 
 pub returns-clause-reserved : goal.returns-clause-reserved
-returns-clause-reserved c =
-    let book = c.self.inside.book in
-    let call = c.at_moment-call.result in
-    let reply = c.answer-reply.result in
-    let is = entered-is book c.args.call call c.max.result c.at.result c.latest.result c.at.ensures c.latest.ensures c.max.ensures c.at_moment-call.ensures in
-    let may = next book c.args.call call is c.self.invariant c.requires.moment
-    (subst (λ (b : BookRecord). IfSome (named c.args.call) (λ inverter. inverter < inverters b.site)) (sym c.self.view_is) c.requires.of_site) c.requires.in_range in
-    let left = leaves book c.args.call call reply is may c.answer-reply.ensures in
-    let of_new = subst (λ (b : BookRecord). LeavesReservations book (record { call = call; reply = reply }) b) (sym c.push.ensures) left in
-    let of_call = subst (λ (m : Call). LeavesReservations book (record { call = m; reply = reply }) c.push.new.self) is of_new in
-    subst (λ (b : BookRecord). LeavesReservations b (record { call = entered b.start b.entries c.args.call; reply = reply }) c.push.new.self) c.self.view_is of_call
+returns-clause-reserved c = leaves c.args.self.now c.args.call c.at_moment-call.result c.answer-reply.result c.enter.new.self (taken c) (right c) (written c)

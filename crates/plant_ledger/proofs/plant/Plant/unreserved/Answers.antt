@@ -1,9 +1,0 @@
-use Rattle.std.proofs.Common.{◌∙◌, ap, arith}
-use Rattle.plant_book.specs.Site.{SiteRecord}
-use Rattle.plant_book.specs.Reserved as sums
-use Rattle.plant_ledger.proofs.plant.Plant.unreserved.Goals as goal
-
-pub returns : goal.returns
-unfolding sums.unreserved_at
-returns c =
-    omega (arith, c.saturating_sub.ensures, c.total.ensures, ap (λ (s : SiteRecord). s.cap) (c.behind-self.view_is ∙ c.site.ensures))
