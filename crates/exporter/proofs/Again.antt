@@ -129,3 +129,4 @@ line_again (lines.Call (calls.Saw at inverter number raw)) more is = absurd is.0
 line_again (lines.Call (calls.Back at inverter link number)) more is = absurd is.0
 line_again (lines.Call (calls.Want at inverter mw)) more is = absurd is.0
 line_again (lines.Call (calls.Stop at)) more is = absurd is.0
+line_again (lines.Call (calls.Cap at mw)) more is = absurd is.0

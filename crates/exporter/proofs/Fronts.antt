@@ -33,6 +33,7 @@ text_of (lines.Call (calls.Saw at inverter number raw)) numbers is e = absurd is
 text_of (lines.Call (calls.Back at inverter link number)) numbers is e = absurd is.0
 text_of (lines.Call (calls.Want at inverter mw)) numbers is e = absurd is.0
 text_of (lines.Call (calls.Stop at)) numbers is e = absurd is.0
+text_of (lines.Call (calls.Cap at mw)) numbers is e = absurd is.0
 
 pub line_found : (bytes rest : List ℕ) (numbers : Fields) (line : Line) → fields_at bytes ≡ Some (numbers, rest) → IsLine line → fields_of line ≡ Some numbers → bytes ≡ line_text line ++ rest
 line_found bytes rest numbers line found is e = fields_take bytes (numbers, rest) found ∙ ap (λ (text : List ℕ). text ++ rest) (sym (text_of line numbers is e))
@@ -132,6 +133,7 @@ call_told (calls.Saw at inverter number raw) is = absurd is
 call_told (calls.Back at inverter link number) is = absurd is
 call_told (calls.Want at inverter mw) is = absurd is
 call_told (calls.Stop at) is = absurd is
+call_told (calls.Cap at mw) is = absurd is
 
 no_call : (call : Call) (found : Option Fields) → IsScriptCall call → kind found < 3 → fields_of (lines.Call call) ≡ found → ⊥
 no_call call found is other e = omega (arith, (call_told call is).1, ap kind e, other)

@@ -36,6 +36,7 @@ same_moment (calls.Back at inverter link number) = refl
 same_moment (calls.Want at inverter mw) = refl
 same_moment (calls.Tick at) = refl
 same_moment (calls.Stop at) = refl
+same_moment (calls.Cap at mw) = refl
 
 pub entered_is : (start : ℕ) (entries : List Entry) (call : Call) → last_moment start (calls_in entries) ≤ moment call → entered start entries call ≡ call
 entered_is start entries call later =
@@ -81,6 +82,7 @@ in_range (calls.Back at inverter link number) its fits = absurd its
 in_range (calls.Want at inverter mw) its fits = absurd its
 in_range (calls.Tick at) its fits = tt
 in_range (calls.Stop at) its fits = absurd its
+in_range (calls.Cap at mw) its fits = absurd its
 
 next_fits : (acc later : List Line) (call : Call) (site : site_line.SiteLine) (start units : ℕ) → MayFollow acc (lines.Call call) → Whole (acc ++ later) site start units → CallFits site.room units start (calls_of acc) call
 next_fits acc later call site start units may whole =

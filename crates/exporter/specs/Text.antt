@@ -53,6 +53,7 @@ call_words (calls.Back at inverter link number) =
 call_words (calls.Want at inverter mw) = codes "want" ∷ decimal at ∷ decimal inverter ∷ decimal mw ∷ []
 call_words (calls.Tick at) = codes "tick" ∷ decimal at ∷ []
 call_words (calls.Stop at) = codes "stop" ∷ decimal at ∷ []
+call_words (calls.Cap at mw) = codes "cap" ∷ decimal at ∷ decimal mw ∷ []
 
 abbrev pub reply_words : Reply → List (List ℕ)
 reply_words (replies.Linked link) = codes "linked" ∷ decimal link ∷ []
@@ -71,6 +72,8 @@ reply_words replies.Crowded = codes "crowded" ∷ []
 reply_words replies.NoRead = codes "noread" ∷ []
 reply_words (replies.Strange raw) = codes "strange" ∷ decimal raw ∷ []
 reply_words replies.NoWrite = codes "nowrite" ∷ []
+reply_words (replies.CapSet cap ceiling) = codes "capset" ∷ decimal cap ∷ decimal ceiling ∷ []
+reply_words (replies.CapOut least most) = codes "capout" ∷ decimal least ∷ decimal most ∷ []
 
 -- a line of a script; its policy is open
 abbrev pub line_words : Line → List (List ℕ)

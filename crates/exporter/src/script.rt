@@ -90,7 +90,7 @@ fn named(call: &Call) -> Option<u8>
         | Call::Saw { inverter, .. }
         | Call::Back { inverter, .. }
         | Call::Want { inverter, .. } => Some(inverter),
-        Call::Tick { .. } | Call::Stop { .. } => None,
+        Call::Tick { .. } | Call::Stop { .. } | Call::Cap { .. } => None,
     }
 }
 

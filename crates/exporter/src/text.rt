@@ -34,6 +34,7 @@ fn put_call(text: &mut String, call: &Call) -> Result<(), AllocError>
         Call::Want { at, inverter, mw } => write!(text, "want {at} {inverter} {mw} "),
         Call::Tick { at } => write!(text, "tick {at} "),
         Call::Stop { at } => write!(text, "stop {at} "),
+        Call::Cap { at, mw } => write!(text, "cap {at} {mw} "),
     }
 }
 
@@ -59,6 +60,8 @@ fn put_reply(text: &mut String, reply: &Reply) -> Result<(), AllocError>
         Reply::NoRead => write!(text, "noread\n"),
         Reply::Strange(raw) => write!(text, "strange {raw}\n"),
         Reply::NoWrite => write!(text, "nowrite\n"),
+        Reply::CapSet { cap, ceiling } => write!(text, "capset {cap} {ceiling}\n"),
+        Reply::CapOut { least, most } => write!(text, "capout {least} {most}\n"),
     }
 }
 

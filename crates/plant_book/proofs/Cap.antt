@@ -1,4 +1,4 @@
--- What is reserved in all never passes the cap: from the last moment of a book on, and whatever calls it has.
+-- What is reserved in all never passes the site's cap: from the last moment of a book on, and whatever calls it has.
 use Rattle.std.proofs.Common.{◌≡◌, ℕ, ◌+◌, ◌≤◌, max, true, not, ◌⊎◌, eqb, leb, List, [], ◌∷◌, ◌++◌, map, refl, sym, ap, subst, ◌∙◌, append_assoc, arith, inl, inr}
 use Rattle.std.specs.Prelude.{filter, fold}
 use Rattle.std.proofs.lemmas.Bool.{cases_Bool, and_parts, and_from, leb-true, le-leb, ne_eqb, and_left}
@@ -10,17 +10,20 @@ use Rattle.plant_book.specs.declared.call.Reply.{Reply}
 use Rattle.plant_book.specs.declared.call.Reply.TheVariants as replies
 use Rattle.plant_book.specs.declared.call.Write as writes
 use Rattle.plant_book.specs.declared.book.Entry.{Entry}
-use Rattle.plant_book.specs.Site.{inverters, mw_at, floor_at}
+use Rattle.plant_book.specs.Site.{inverters, mw_at, floor_at, floors}
 use Rattle.plant_book.specs.Book.{BookRecord}
 use Rattle.plant_book.specs.Calls.{moment, latest}
 use Rattle.plant_book.specs.Writes.{grant_of, granted, ends, standing, is_current, live}
 use Rattle.plant_book.specs.Reserved.{covering, reserved_at, total_at, unreserved_at, now_of}
+use Rattle.plant_book.specs.Caps.{cap_of}
 use Rattle.plant_book.specs.Answer.{raise_at}
 use Rattle.plant_book.specs.Answered.{EachInTurn, IsAnswer, IsNext, IsOpenable, IsBook, with_entries}
 use Rattle.plant_book.proofs.Steps.{latest-push}
 use Rattle.plant_book.proofs.Maxima.{fold_max_filter, fold_max_filtered, fold_max-push, sum_below_le, sum_below_raise}
 use Rattle.plant_book.proofs.Standing.{standing-push}
 use Rattle.plant_book.proofs.Granting.{granted_is_covered}
+use Rattle.plant_book.proofs.Along.{along}
+use Rattle.plant_book.proofs.CapInForce.{IsWithin, within-push, within_empty}
 
 -- a write that is not past its last moment was not past it before
 pub current_before : (rules : Rules) (old new inverter : ℕ) (write : writes.Write) → old ≤ new → is_current rules new inverter write ≡ true → is_current rules old inverter write ≡ true
@@ -97,32 +100,37 @@ grant_cases replies.Crowded = inr refl
 grant_cases replies.NoRead = inr refl
 grant_cases (replies.Strange raw) = inr refl
 grant_cases replies.NoWrite = inr refl
+grant_cases (replies.CapSet cap ceiling) = inr refl
+grant_cases (replies.CapOut least most) = inr refl
 
--- what is reserved in all is at most the cap from the last moment of these entries on
-abbrev pub IsCapped : BookRecord → List Entry → Type 0
-IsCapped book entries = (now : ℕ) → latest book.start entries ≤ now → total_at (with_entries book entries) now ≤ book.site.cap
+-- what is reserved in all is at most this from the last moment of these entries on
+abbrev pub IsUnder : BookRecord → List Entry → ℕ → Type 0
+IsUnder book entries most = (now : ℕ) → latest book.start entries ≤ now → total_at (with_entries book entries) now ≤ most
 
-module _ (book : BookRecord) (before : List Entry) (entry : Entry) (capped : IsCapped book before) (right : IsAnswer book before entry) (later : latest book.start before ≤ moment entry.call) where
-  capped_by_none : (now : ℕ) → moment entry.call ≤ now → granted entry.reply ≡ [] → total_at (with_entries book (before ++ entry ∷ [])) now ≤ book.site.cap
+-- One more entry keeps what is reserved under a bound that is no lower than the cap in force: a grant raises it to the
+-- cap at most, and nothing else raises it.
+module _ (book : BookRecord) (before : List Entry) (entry : Entry) (most : ℕ) (cap : cap_of (with_entries book before) ≤ most)
+    (under : total_at (with_entries book before) (moment entry.call) ≤ most) (right : IsAnswer book before entry) where
+  under_by_none : (now : ℕ) → moment entry.call ≤ now → granted entry.reply ≡ [] → total_at (with_entries book (before ++ entry ∷ [])) now ≤ most
   unfolding total_at
-  capped_by_none now le none =
+  under_by_none now le none =
       omega (
         arith,
-        capped (moment entry.call) later,
+        under,
         sum_below_le (inverters book.site) (reserved_at (with_entries book (before ++ entry ∷ [])) now) (reserved_at (with_entries book before) (moment entry.call))
             (λ inverter lt. reserved_no_more book before entry (moment entry.call) now le inverter (ap (filter (is_current book.site.rules now inverter)) none)),
       )
 
-  capped_by_grant : (now : ℕ) → moment entry.call ≤ now → (write : writes.Write) → entry.reply ≡ replies.Granted write → total_at (with_entries book (before ++ entry ∷ [])) now ≤ book.site.cap
+  under_by_grant : (now : ℕ) → moment entry.call ≤ now → (write : writes.Write) → entry.reply ≡ replies.Granted write → total_at (with_entries book (before ++ entry ∷ [])) now ≤ most
   unfolding total_at unreserved_at
-  capped_by_grant now le write grants =
+  under_by_grant now le write grants =
       let at = moment entry.call in
       let old = with_entries book before in
       let covered = granted_is_covered old entry.call write (sym right ∙ grants) in
-      let before_all = capped at later in
       omega (
         arith,
-        before_all,
+        under,
+        cap,
         covered.fits,
         sum_below_raise (inverters book.site) write.inverter (raise_at old at write.inverter write.raw)
             (reserved_at (with_entries book (before ++ entry ∷ [])) now) (reserved_at old at)
@@ -131,27 +139,33 @@ module _ (book : BookRecord) (before : List Entry) (entry : Entry) (capped : IsC
             (omega (arith, reserved_raised book before entry at now le write write.inverter grants)),
       )
 
-  -- one more right entry keeps it
-  capped-push : IsCapped book (before ++ entry ∷ [])
-  capped-push now le =
+  pub under-push : IsUnder book (before ++ entry ∷ []) most
+  under-push now le =
       let from : moment entry.call ≤ now = subst (λ (m : ℕ). m ≤ now) (latest-push book.start before entry) le in
       elim (grant_cases entry.reply) [
-        | inl grant ↦ capped_by_grant now from grant.0 grant.1
-        | inr none ↦ capped_by_none now from none
+        | inl grant ↦ under_by_grant now from grant.0 grant.1
+        | inr none ↦ under_by_none now from none
       ]
 
-capped_along : (book : BookRecord) (before later : List Entry) → IsCapped book before → EachInTurn (IsAnswer book) before later → EachInTurn (λ es entry. IsNext book.site book.start es entry.call) before later → IsCapped book (before ++ later)
-capped_along book before [] capped right next = subst (IsCapped book) (sym (append-nil before)) capped
-capped_along book before (entry ∷ later) capped right next =
-    subst (IsCapped book) (append_assoc before (entry ∷ []) later)
-    (capped_along book (before ++ entry ∷ []) later (capped-push book before entry capped right.0 next.0.later) right.1 next.1)
-
 -- an empty book reserves the floors
-capped_empty : (book : BookRecord) → IsOpenable book.site → IsCapped book []
+pub under_empty : (book : BookRecord) (most : ℕ) → floors book.site ≤ most → IsUnder book [] most
 unfolding total_at reserved_at covering live standing
-capped_empty book openable now le = openable.floors
+under_empty book most fits now le = fits
 
--- what is reserved in all never passes the cap
+-- the cap in force is within its bounds, and what is reserved in all is under the site's
+record IsCapped (book : BookRecord) (entries : List Entry) : Type 0 where
+  within : IsWithin book entries
+  under : IsUnder book entries book.site.cap
+
+capped-push : (book : BookRecord) (before : List Entry) (entry : Entry) → IsCapped book before → IsAnswer book before entry → latest book.start before ≤ moment entry.call → IsCapped book (before ++ entry ∷ [])
+capped-push book before entry capped right later = record {
+  within = within-push book before entry capped.within right;
+  under = under-push book before entry book.site.cap capped.within.high (capped.under (moment entry.call) later) right;
+}
+
+-- what is reserved in all never passes the site's cap
 pub total_at-capped : (book : BookRecord) → IsBook book → (now : ℕ) → now_of book ≤ now → total_at book now ≤ book.site.cap
 unfolding now_of
-total_at-capped book kept now le = capped_along book [] book.entries (capped_empty book kept.openable) kept.answered kept.entered now le
+total_at-capped book kept now le =
+    (along book (IsCapped book) (λ before entry capped right next. capped-push book before entry capped right next.later) kept
+    (record { within = within_empty book kept.openable.floors; under = under_empty book book.site.cap kept.openable.floors })).under now le

@@ -29,6 +29,7 @@ moment-at_moment at (calls.Back old inverter link number) = refl
 moment-at_moment at (calls.Want old inverter mw) = refl
 moment-at_moment at (calls.Tick old) = refl
 moment-at_moment at (calls.Stop old) = refl
+moment-at_moment at (calls.Cap old mw) = refl
 
 pub named-at_moment : (at : ℕ) (call : Call) → named (at_moment at call) ≡ named call
 named-at_moment at (calls.Link old inverter) = refl
@@ -39,6 +40,7 @@ named-at_moment at (calls.Back old inverter link number) = refl
 named-at_moment at (calls.Want old inverter mw) = refl
 named-at_moment at (calls.Tick old) = refl
 named-at_moment at (calls.Stop old) = refl
+named-at_moment at (calls.Cap old mw) = refl
 
 pub IsInRange-at_moment : (at : ℕ) (call : Call) → IsInRange call → IsInRange (at_moment at call)
 IsInRange-at_moment at (calls.Link old inverter) ranged = ranged
@@ -49,6 +51,7 @@ IsInRange-at_moment at (calls.Back old inverter link number) ranged = ranged
 IsInRange-at_moment at (calls.Want old inverter mw) ranged = ranged
 IsInRange-at_moment at (calls.Tick old) ranged = ranged
 IsInRange-at_moment at (calls.Stop old) ranged = ranged
+IsInRange-at_moment at (calls.Cap old mw) ranged = ranged
 
 -- a book with no entry is at its start
 start_low : (start : ℕ) → start ≤ MOMENT_MAX → latest start [] ≤ MOMENT_MAX

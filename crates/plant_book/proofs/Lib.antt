@@ -13,6 +13,8 @@ pub mod Tight
 pub mod Looks
 pub mod Cover
 pub mod Claims
+pub mod Along
+pub mod CapInForce
 pub mod Cap
 pub mod Few
 pub mod Lifetime
@@ -20,4 +22,5 @@ pub mod Last
 pub mod Device
 pub mod Prefix
 pub mod Growth
+pub mod Lowered
 pub mod Safe

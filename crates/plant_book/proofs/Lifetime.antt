@@ -14,7 +14,7 @@ use Rattle.plant_book.specs.declared.book.Entry.{Entry}
 use Rattle.plant_book.specs.Book.{BookRecord}
 use Rattle.plant_book.specs.Calls.{moment, latest}
 use Rattle.plant_book.specs.Writes.{grant_of, granted, ends, ends_by, standing, is_current, live}
-use Rattle.plant_book.specs.Reserved.{covering, reserved_at, now_of}
+use Rattle.plant_book.specs.Reserved.{covering, reserved_at, reserved, now_of}
 use Rattle.plant_book.specs.Answered.{IsAnswer, with_entries}
 use Rattle.plant_book.specs.Lifetime.{is_refusal, left_after, granted_to, LiveOn, ChangesNothing}
 use Rattle.plant_book.proofs.Steps.{latest-push}
@@ -118,14 +118,20 @@ module _ (book : BookRecord) (entry : Entry) (right : IsAnswer book book.entries
       ap (λ (now : ℕ). covering book.site inverter (live book.site.rules (book.entries ++ entry ∷ []) now inverter)) (latest-push book.start book.entries entry)
       ∙ ap (covering book.site inverter) (live-next book book.entries entry right later inverter)
 
-  pub changes_nothing : ChangesNothing book entry (with_entries book (book.entries ++ entry ∷ []))
+  -- an entry that ends no write and grants none changes no reservation beyond what is past by its moment
+  pub unchanged : ((write : writes.Write) → ends book.site.rules book.entries entry write ≡ false) → granted entry.reply ≡ []
+      → (inverter : ℕ) → reserved (with_entries book (book.entries ++ entry ∷ [])) inverter ≡ reserved_at book (moment entry.call) inverter
   unfolding reserved_at now_of live
-  changes_nothing refused inverter =
+  unchanged none_ended none_granted inverter =
       let rules = book.site.rules in
       let now = moment entry.call in
-      let stay = filter_all_pass (λ (write : writes.Write). not (ends rules book.entries entry write)) (λ write. ap not (ends_none rules book.entries entry.call entry.reply write refused)) (standing rules [] book.entries) in
+      let stay = filter_all_pass (λ (write : writes.Write). not (ends rules book.entries entry write)) (λ write. ap not (none_ended write)) (standing rules [] book.entries) in
       let same : standing rules [] (book.entries ++ entry ∷ []) ≡ standing rules [] book.entries =
-      standing-push rules [] book.entries entry ∙ ap (λ (ws : List writes.Write). filter (λ write. not (ends rules book.entries entry write)) (standing rules [] book.entries) ++ ws) (grants_none entry.reply refused)
+      standing-push rules [] book.entries entry ∙ ap (λ (ws : List writes.Write). filter (λ write. not (ends rules book.entries entry write)) (standing rules [] book.entries) ++ ws) none_granted
       ∙ append-nil _ ∙ stay in
       ap (λ (at : ℕ). covering book.site inverter (filter (is_current rules at inverter) (standing rules [] (book.entries ++ entry ∷ [])))) (latest-push book.start book.entries entry)
       ∙ ap (λ (ws : List writes.Write). covering book.site inverter (filter (is_current rules now inverter) ws)) same
+
+  pub changes_nothing : ChangesNothing book entry (with_entries book (book.entries ++ entry ∷ []))
+  changes_nothing refused inverter =
+      unchanged (λ write. ends_none book.site.rules book.entries entry.call entry.reply write refused) (grants_none entry.reply refused) inverter

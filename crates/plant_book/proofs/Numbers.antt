@@ -1,5 +1,5 @@
 -- The numbers of requests rise along a link, and where grants and answered reads stand.
-use Rattle.std.proofs.Common.{◌≡◌, ℕ, ◌+◌, ◌≤◌, Bool, true, false, cond, not, eqb, leb, ltb, List, [], ◌∷◌, ◌++◌, length, map, Option, Some, None, refl, sym, ap, subst, ◌∙◌, append_assoc, arith, inl, inr}
+use Rattle.std.proofs.Common.{◌≡◌, ℕ, ◌+◌, ◌≤◌, Bool, true, false, cond, not, ◌||◌, eqb, leb, ltb, List, [], ◌∷◌, ◌++◌, length, map, Option, Some, None, refl, sym, ap, subst, ◌∙◌, append_assoc, arith, inl, inr}
 use Rattle.std.specs.Prelude.{filter, Contains, find, reverse}
 use Rattle.std.specs.List.{list_any}
 use Rattle.std.proofs.lemmas.Bool.{cases_Bool, eqb-true, eq-eqb}
@@ -15,14 +15,14 @@ use Rattle.plant_book.specs.declared.call.Read as reads
 use Rattle.plant_book.specs.declared.call.TheConstants.{REQUESTS_MAX, LIVE_MAX}
 use Rattle.plant_book.specs.declared.book.Entry.{Entry}
 use Rattle.plant_book.specs.Sums.{last_that}
-use Rattle.plant_book.specs.Site.{mw_at, full_at, floor_raw_at}
+use Rattle.plant_book.specs.Site.{mw_at, full_at, floor_raw_at, floors}
 use Rattle.plant_book.specs.Book.{BookRecord}
 use Rattle.plant_book.specs.Calls.{moment}
 use Rattle.plant_book.specs.Requests.{is_link, links_to, link_number, grants_to, is_request, requests, is_seen, changes_by, changes_pending, read_of, pending_after, pending_read}
 use Rattle.plant_book.specs.Writes.{grant_of, ends, ends_by, ends_later, standing, live, is_numbered}
-use Rattle.plant_book.specs.Policy.{is_sight, sees, target}
+use Rattle.plant_book.specs.Policy.{is_sight, sees, target_at}
 use Rattle.plant_book.specs.Reserved.{unreserved_at}
-use Rattle.plant_book.specs.Answer.{reply_to, reply_to_ask, reply_by_policy, reply_by_watts, reply_to_read, reply_to_saw, reply_to_back, raise_at, write_at, silent_until, is_pending, is_raw_of}
+use Rattle.plant_book.specs.Answer.{reply_to, reply_to_ask, reply_by_policy, reply_by_watts, reply_to_read, reply_to_saw, reply_to_back, reply_to_cap, raise_at, write_at, silent_until, is_pending, is_raw_of}
 use Rattle.plant_book.specs.History.{Grant, Sight, gives_back, is_given_back, life_grants, sight_of, sight_by, life_sights}
 use Rattle.plant_book.proofs.Steps.{requests-push, count_by-push}
 use Rattle.plant_book.proofs.Granting.{rest_of}
@@ -98,7 +98,7 @@ unfolding reply_by_policy
 no_read_by_policy book now inverter raw read is =
     let over = rest_of (ltb (full_at book.site inverter) raw) _ _ (replies.ReadAs read) (λ other. cc) is in
     let silent = rest_of (leb now (silent_until book)) _ _ (replies.ReadAs read) (λ other. cc) over.1 in
-    let allowed = rest_of (ltb (target book inverter) (mw_at book.site inverter raw)) _ _ (replies.ReadAs read) (λ other. cc) silent.1 in
+    let allowed = rest_of (ltb (target_at book now inverter) (mw_at book.site inverter raw)) _ _ (replies.ReadAs read) (λ other. cc) silent.1 in
     no_read_by_watts book now inverter raw read allowed.1
 
 no_read_by_ask : (book : BookRecord) (now inverter raw : ℕ) (read : reads.Read) → reply_to_ask book now inverter raw ≡ replies.ReadAs read → ⊥
@@ -121,6 +121,12 @@ no_read_by_back book now inverter link number read is =
     let taken = rest_of (list_any (is_numbered inverter link number) (live book.site.rules book.entries now inverter)) _ _ (replies.ReadAs read) (λ other. cc) is in
     let never = taken.1 in cc
 
+no_read_by_cap : (book : BookRecord) (now watts : ℕ) (read : reads.Read) → reply_to_cap book now watts ≡ replies.ReadAs read → ⊥
+unfolding reply_to_cap
+no_read_by_cap book now watts read is =
+    let out = rest_of (ltb watts (floors book.site) || ltb book.site.cap watts) _ _ (replies.ReadAs read) (λ other. cc) is in
+    let never = out.1 in cc
+
 pub read_is_at : (book : BookRecord) (call : Call) (read : reads.Read) → reply_to book call ≡ replies.ReadAs read → IsReadAt book (moment call) read
 read_is_at book (calls.Link at inverter) read is = absurd cc
 read_is_at book (calls.Ask at inverter raw) read is = absurd (no_read_by_ask book at inverter raw read is)
@@ -130,6 +136,7 @@ read_is_at book (calls.Back at inverter link number) read is = absurd (no_read_b
 read_is_at book (calls.Want at inverter mw) read is = absurd cc
 read_is_at book (calls.Tick at) read is = absurd cc
 read_is_at book (calls.Stop at) read is = absurd cc
+read_is_at book (calls.Cap at mw) read is = absurd (no_read_by_cap book at mw read is)
 
 -- where a write that stands was granted: no later entry ends it
 pub record StandsAt (rules : Rules) (later : List Entry) (write : writes.Write) : Type 0 where

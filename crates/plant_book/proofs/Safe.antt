@@ -1,25 +1,36 @@
 -- Every history is safe at every moment.
-use Rattle.std.proofs.Common.{◌≡◌, ℕ, ◌+◌, ◌≤◌, Bool, true, false, cond, List, [], ◌∷◌, ◌++◌, take, refl, sym, ap, subst, ◌∙◌, arith}
+use Rattle.std.proofs.Common.{◌≡◌, ℕ, ◌+◌, ◌<◌, ◌≤◌, inl, inr, Bool, true, false, cond, List, [], ◌∷◌, ◌++◌, take, refl, sym, ap, subst, ◌∙◌, arith}
 use Rattle.std.specs.List.{AllByRecursion}
+use Rattle.std.proofs.lemmas.Bool.{cases_lt, le-leb}
 use Rattle.plant_book.specs.Site.{SiteRecord, inverters}
 use Rattle.plant_book.specs.Book.{BookRecord}
 use Rattle.plant_book.specs.declared.call.Write as writes
-use Rattle.plant_book.specs.Reserved.{covering, reserved}
+use Rattle.plant_book.specs.Reserved.{covering, reserved, total_at, now_of}
+use Rattle.plant_book.specs.Answer.{silent_until}
+use Rattle.plant_book.specs.Ceiling.{ceiling}
 use Rattle.plant_book.specs.Answered.{IsBook, with_entries}
 use Rattle.plant_book.specs.History.{History, lives, InTurn, first_start, Fits, IsHistory, IsPast, life_after}
 use Rattle.plant_book.specs.Safe.{held_mw, IsSafe, IsSafeAlways, up_to}
 use Rattle.plant_book.proofs.Maxima.{sum_below-both}
 use Rattle.plant_book.proofs.Prefix.{IsBook-first}
 use Rattle.plant_book.proofs.Cover.{cover, cover_capped, reserved_le_cover}
-use Rattle.plant_book.proofs.Device.{past_cover, floor_le_past, chain_of_history, held_is_covered}
+use Rattle.plant_book.proofs.Device.{past_cover, floor_le_past, chain_of_history, held_is_covered, held_behind_silence}
+use Rattle.plant_book.proofs.Lowered.{under_ceiling}
 
 -- one inverter's part: what it holds, or what is reserved for it
 part_le : (b : Bool) (holds reserves covers : ℕ) → (b ≡ true → holds ≤ covers) → reserves ≤ covers → cond b holds 0 + cond b 0 reserves ≤ covers
 part_le true holds reserves covers le covered = omega (arith, le refl)
 part_le false holds reserves covers le covered = omega (arith, covered)
 
-pub safe_history : (history : History) → IsHistory history → IsSafe history
-safe_history history is among events first rest at devices from cuts =
+-- what holds of each life holds of one
+has_one : (P : BookRecord → Type 0) (before : List BookRecord) (book : BookRecord) (later : List BookRecord) → AllByRecursion P (before ++ book ∷ later) → P book
+has_one P [] book later all = all.0
+has_one P (one ∷ before) book later all = has_one P before book later all.1
+
+-- While the last life is silent the cover bounds all, and it is at most the site's cap.
+safe_in_silence : (history : History) → IsHistory history → now_of history.life ≤ silent_until history.life → IsSafe history
+unfolding ceiling
+safe_in_silence history is silent among events first rest at devices from cuts =
     let site = history.life.site in
     let chain = chain_of_history history at is from in
     let total = cover_capped site at (lives history) (past_cover history) chain is.fits in
@@ -30,7 +41,28 @@ safe_history history is among events first rest at devices from cuts =
     (λ inverter lt. part_le (among inverter) (held_mw site inverter (first inverter)) (reserved history.life inverter) (cover (past_cover history) (lives history) inverter)
     (λ follows. held_is_covered history is inverter at from (events inverter) (first inverter) (rest inverter) (devices inverter lt follows) (cuts inverter lt follows))
     (reserved_le_cover site at inverter history.earlier history.life (past_cover history) chain (floor_le_past history is inverter at from))) in
-    omega (arith, total, both)
+    rw (le-leb (now_of history.life) (silent_until history.life) silent) (omega (arith, total, both))
+
+-- Behind the silence what is held is reserved, and what is reserved in all is at most the ceiling.
+safe_behind_silence : (history : History) → IsHistory history → silent_until history.life < now_of history.life → IsSafe history
+unfolding total_at
+safe_behind_silence history is loud among events first rest at devices from cuts =
+    let site = history.life.site in
+    let both = sum_below-both (inverters site)
+    (λ inverter. cond (among inverter) (held_mw site inverter (first inverter)) 0)
+    (λ inverter. cond (among inverter) 0 (reserved history.life inverter))
+    (reserved history.life)
+    (λ inverter lt. part_le (among inverter) (held_mw site inverter (first inverter)) (reserved history.life inverter) (reserved history.life inverter)
+    (λ follows. held_behind_silence history is inverter at from (events inverter) (first inverter) (rest inverter) (devices inverter lt follows) (cuts inverter lt follows) loud)
+    (omega arith)) in
+    omega (arith, both, under_ceiling history.life (has_one IsBook history.earlier history.life [] is.books))
+
+pub safe_history : (history : History) → IsHistory history → IsSafe history
+safe_history history is =
+    elim (cases_lt (silent_until history.life) (now_of history.life)) [
+      | inl loud ↦ safe_behind_silence history is loud
+      | inr silent ↦ safe_in_silence history is silent
+    ]
 
 -- the facts of a history hold of its first lives, the last of them cut short
 pub first_books : (P : BookRecord → Type 0) (before : List BookRecord) (book cut : BookRecord) (later : List BookRecord) → AllByRecursion P (before ++ book ∷ later) → (P book → P cut) → AllByRecursion P (before ++ cut ∷ [])
@@ -45,10 +77,6 @@ first_in_turn (one ∷ two ∷ before) book cut later turn same = (turn.0, first
 pub first_start_is : (before : List BookRecord) (book cut : BookRecord) (later : List BookRecord) (n m : ℕ) → cut.start ≡ book.start → first_start (before ++ cut ∷ []) n ≡ first_start (before ++ book ∷ later) m
 first_start_is [] book cut later n m same = same
 first_start_is (one ∷ before) book cut later n m same = refl
-
-has_one : (P : BookRecord → Type 0) (before : List BookRecord) (book : BookRecord) (later : List BookRecord) → AllByRecursion P (before ++ book ∷ later) → P book
-has_one P [] book later all = all.0
-has_one P (one ∷ before) book later all = has_one P before book later all.1
 
 -- a prefix of a history is one
 pub history_first : (history : History) (before later : List BookRecord) (book : BookRecord) (count : ℕ) → IsHistory history → lives history ≡ before ++ book ∷ later → IsHistory (up_to history before book count)

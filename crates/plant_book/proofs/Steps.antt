@@ -2,9 +2,9 @@
 use Rattle.std.proofs.Common.{◌≡◌, ℕ, ◌+◌, ◌-◌, ◌<◌, Bool, true, false, cond, not, List, [], ◌∷◌, ◌++◌, length, take, drop, get_or, Some, refl, ap, ◌∙◌, arith}
 use Rattle.std.specs.Prelude.{count_by, find, slice_get}
 use Rattle.std.specs.Option.{option_map_or}
-use Rattle.plant_book.specs.Sums.{last_that}
+use Rattle.plant_book.specs.Sums.{last_that, through_last}
 use Rattle.std.specs.List.{after_last, prefix_len, suffix_len}
-use Rattle.std.proofs.lemmas.List.{length_push, take_more, drop-append-le, drop_all, reverse-append}
+use Rattle.std.proofs.lemmas.List.{length_push, take_more, take_all, take-append-le, drop-append-le, drop_all, reverse-append}
 use Rattle.std.proofs.lemmas.List.Sums.{suffix_len-le-length, sum_by-append}
 use Rattle.plant_book.specs.declared.book.Entry.{Entry}
 use Rattle.plant_book.specs.Calls.{moment, latest}
@@ -32,6 +32,20 @@ after_last-push_fails p xs x fails =
     let len : length (xs ++ x ∷ []) ≡ length xs + 1 = length_push xs x in
     let place : length (xs ++ x ∷ []) - suffix_len (λ y. not (p y)) (xs ++ x ∷ []) ≡ length xs - tail = omega (arith, more, len, suffix_len-le-length (λ y. not (p y)) xs) in
     ap (λ (n : ℕ). drop n (xs ++ x ∷ [])) place ∙ drop-append-le (length xs - tail) xs (x ∷ []) (omega arith)
+
+-- the elements up to the last that passes, of a list with one more at its end
+pub through_last-push_passes : {X : Type 0} (p : X → Bool) (xs : List X) (x : X) → p x ≡ true → through_last p (xs ++ x ∷ []) ≡ xs ++ x ∷ []
+unfolding through_last
+through_last-push_passes {X = X} p xs x passes =
+    let none : length (after_last p (xs ++ x ∷ [])) ≡ 0 = ap (length {A = X}) (after_last-push_passes p xs x passes) in
+    take_all _ (xs ++ x ∷ []) (omega (arith, none))
+
+pub through_last-push_fails : {X : Type 0} (p : X → Bool) (xs : List X) (x : X) → p x ≡ false → through_last p (xs ++ x ∷ []) ≡ through_last p xs
+unfolding through_last
+through_last-push_fails {X = X} p xs x fails =
+    let more : length (after_last p (xs ++ x ∷ [])) ≡ length (after_last p xs) + 1 = ap (length {A = X}) (after_last-push_fails p xs x fails) ∙ length_push (after_last p xs) x in
+    let place : length (xs ++ x ∷ []) - length (after_last p (xs ++ x ∷ [])) ≡ length xs - length (after_last p xs) = omega (arith, more, length_push xs x) in
+    ap (λ (n : ℕ). take n (xs ++ x ∷ [])) place ∙ take-append-le (length xs - length (after_last p xs)) xs (x ∷ []) (omega arith)
 
 pub count_by-push : {X : Type 0} (p : X → Bool) (xs : List X) (x : X) → count_by p (xs ++ x ∷ []) ≡ count_by p xs + cond (p x) 1 0
 count_by-push p xs x = omega (arith, sum_by-append (λ y. cond (p y) 1 0) xs (x ∷ []))
@@ -83,3 +97,11 @@ module _ {X : Type 0} (p : X → Bool) (xs : List X) (place : ℕ) (default : X)
 
   pub last_that-more_fails : p (get_or xs place default) ≡ false → last_that p (take (place + 1) xs) ≡ last_that p (take place xs)
   last_that-more_fails fails = last_that-more p xs place default within ∙ rw fails refl
+
+-- the same for the elements up to it
+module _ {X : Type 0} (p : X → Bool) (xs : List X) (place : ℕ) (default : X) (within : place < length xs) where
+  pub through_last-more_passes : p (get_or xs place default) ≡ true → through_last p (take (place + 1) xs) ≡ take (place + 1) xs
+  through_last-more_passes passes = rw (take_more xs place default within) (through_last-push_passes p (take place xs) (get_or xs place default) passes)
+
+  pub through_last-more_fails : p (get_or xs place default) ≡ false → through_last p (take (place + 1) xs) ≡ through_last p (take place xs)
+  through_last-more_fails fails = ap (through_last p) (take_more xs place default within) ∙ through_last-push_fails p (take place xs) (get_or xs place default) fails

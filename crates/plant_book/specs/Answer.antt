@@ -9,12 +9,12 @@ use Rattle.plant_book.specs.declared.call.Reply.TheVariants as replies
 use Rattle.plant_book.specs.declared.call.Write as writes
 use Rattle.plant_book.specs.declared.call.Read as reads
 use Rattle.plant_book.specs.declared.call.TheConstants.{REQUESTS_MAX, LIVE_MAX}
-use Rattle.plant_book.specs.Site.{SiteRecord, mw_at, floor_raw_at, full_at, raw_at}
+use Rattle.plant_book.specs.Site.{SiteRecord, mw_at, floor_raw_at, full_at, raw_at, floors}
 use Rattle.plant_book.specs.Book.{BookRecord}
 use Rattle.plant_book.specs.Requests.{link_number, requests, pending_read}
 use Rattle.plant_book.specs.Writes.{live, frees, is_numbered}
 use Rattle.plant_book.specs.Reserved.{covering, reserved_at, total_at, unreserved_at, reserved, unreserved}
-use Rattle.plant_book.specs.Policy.{target}
+use Rattle.plant_book.specs.Policy.{target_at, target}
 
 -- the last moment at which earlier lives may still act
 abbrev pub silent_until : BookRecord → ℕ
@@ -48,8 +48,8 @@ unfoldable pub reply_by_policy : BookRecord → ℕ → ℕ → ℕ → Reply
 reply_by_policy book now inverter raw =
     if nat_lt (full_at book.site inverter) raw then replies.Over (full_at book.site inverter)
     else if nat_le now (silent_until book) then replies.Silent (silent_until book)
-    else if nat_lt (target book inverter) (mw_at book.site inverter raw) then replies.NotAllowed
-    (raw_at book.site inverter (target book inverter))
+    else if nat_lt (target_at book now inverter) (mw_at book.site inverter raw) then replies.NotAllowed
+    (raw_at book.site inverter (target_at book now inverter))
     else reply_by_watts book now inverter raw
 
 -- the reply to an Ask: the first refusal that applies, or the grant
@@ -97,6 +97,17 @@ reply_to_back book now inverter link number =
     if list_any (is_numbered inverter link number) (live book.site.rules book.entries now inverter)
     then replies.Taken else replies.NoWrite
 
+-- the ceiling right after a cap is set: the site's cap through the silence, else the greater of the new cap and
+-- what is reserved
+abbrev pub ceiling_with : BookRecord → ℕ → ℕ → ℕ
+ceiling_with book now mw = if nat_le now (silent_until book) then book.site.cap else max mw (total_at book now)
+
+-- the reply to a Cap: whether the floors fit under it, and the site's cap is no lower
+unfoldable pub reply_to_cap : BookRecord → ℕ → ℕ → Reply
+reply_to_cap book now mw =
+    if nat_lt mw (floors book.site) || nat_lt book.site.cap mw then replies.CapOut (floors book.site) book.site.cap
+    else replies.CapSet mw (ceiling_with book now mw)
+
 -- the reply to a call as it is entered
 abbrev pub reply_to : BookRecord → Call → Reply
 reply_to book (calls.Link at inverter) = replies.Linked (link_number inverter book.entries + 1)
@@ -107,6 +118,7 @@ reply_to book (calls.Back at inverter link number) = reply_to_back book at inver
 reply_to book (calls.Want at inverter mw) = replies.Taken
 reply_to book (calls.Tick at) = replies.Total (total_at book at)
 reply_to book (calls.Stop at) = replies.Taken
+reply_to book (calls.Cap at mw) = reply_to_cap book at mw
 
 -- the limit that an inverter may aim at: the greatest that the policy and the watts allow at the last moment
 unfoldable pub goal_raw : BookRecord → ℕ → ℕ

@@ -29,7 +29,7 @@ IsAnswered book = EachInTurn (IsAnswer book) [] book.entries
 
 -- the numbers of a call are in the ranges of what they count: 16 bits for a raw percentage and a request, 32
 -- for a
--- link, and at most 10^14 mW for a wish
+-- link, and at most 10^14 mW for a wish and for a cap
 abbrev pub IsInRange : Call → Type 0
 IsInRange (calls.Link at inverter) = Unit {0}
 IsInRange (calls.Ask at inverter raw) = raw ≤ 65535
@@ -39,6 +39,7 @@ IsInRange (calls.Back at inverter link number) = (link ≤ 4294967295) × (numbe
 IsInRange (calls.Want at inverter mw) = mw ≤ 10 ^ 14
 IsInRange (calls.Tick at) = Unit {0}
 IsInRange (calls.Stop at) = Unit {0}
+IsInRange (calls.Cap at mw) = mw ≤ 10 ^ 14
 
 -- A call that may be entered behind these entries of a book: its moment is neither below theirs nor above the
 -- greatest, its inverter is of the site, and its numbers are in range.

@@ -14,6 +14,7 @@ moment (calls.Back at inverter link number) = at
 moment (calls.Want at inverter mw) = at
 moment (calls.Tick at) = at
 moment (calls.Stop at) = at
+moment (calls.Cap at mw) = at
 
 -- the same call at another moment
 abbrev pub at_moment : ℕ → Call → Call
@@ -25,6 +26,7 @@ at_moment new (calls.Back at inverter link number) = calls.Back new inverter lin
 at_moment new (calls.Want at inverter mw) = calls.Want new inverter mw
 at_moment new (calls.Tick at) = calls.Tick new
 at_moment new (calls.Stop at) = calls.Stop new
+at_moment new (calls.Cap at mw) = calls.Cap new mw
 
 -- the inverter that a call names
 abbrev pub named : Call → Option ℕ
@@ -36,6 +38,7 @@ named (calls.Back at inverter link number) = Some inverter
 named (calls.Want at inverter mw) = Some inverter
 named (calls.Tick at) = None
 named (calls.Stop at) = None
+named (calls.Cap at mw) = None
 
 -- the last moment of a book: that of its last entry, or its start
 unfoldable pub latest : ℕ → List Entry → ℕ

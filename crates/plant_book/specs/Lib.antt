@@ -5,13 +5,16 @@ pub mod Port
 pub mod Calls
 pub mod Requests
 pub mod Writes
+pub mod Caps
 pub mod Reserved
 pub mod Policy
 pub mod Answer
+pub mod Ceiling
 pub mod Answered
 pub mod History
 pub mod Behaviour
 pub mod Held
 pub mod Safe
+pub mod Covered
 pub mod Lifetime
 pub mod Tight

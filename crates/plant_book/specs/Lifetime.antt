@@ -19,6 +19,7 @@ is_refusal (replies.ReadAs read) = false
 is_refusal (replies.Freed count reserved) = false
 is_refusal replies.Taken = false
 is_refusal (replies.Total watts) = false
+is_refusal (replies.CapSet cap ceiling) = false
 is_refusal _ = true
 
 -- of these writes those that an entry, behind these before it, neither gives back nor frees, and that are not

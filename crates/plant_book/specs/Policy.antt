@@ -1,15 +1,18 @@
 -- What the policy allows an inverter.
-use Rattle.std.specs.Prelude.{ℕ, Bool, true, false, ◌==◌, if◌then◌else◌, map, List, Option, Some, None, is_some, unwrap_or}
+use Rattle.std.specs.Prelude.{ℕ, Bool, true, false, ◌==◌, nat_lt, if◌then◌else◌, min, map, List, Option, Some, None, is_some, unwrap_or}
 use Rattle.std.specs.List.{range_with_len}
 use Rattle.share_policy.specs.declared.claim.Claim.{Claim}
+use Rattle.share_policy.specs.declared.claim.Policy.TheVariants as policies
 use Rattle.plant_book.specs.declared.call.Call.{Call}
 use Rattle.plant_book.specs.declared.call.Call.TheVariants as calls
 use Rattle.plant_book.specs.declared.call.Reply.{Reply}
 use Rattle.plant_book.specs.declared.call.Reply.TheVariants as replies
 use Rattle.plant_book.specs.declared.book.Entry.{Entry}
 use Rattle.plant_book.specs.Sums.{last_that}
-use Rattle.plant_book.specs.Site.{inverters, floor_at, rated_at}
+use Rattle.plant_book.specs.Site.{SiteRecord, inverters, floor_at, rated_at}
 use Rattle.plant_book.specs.Book.{BookRecord}
+use Rattle.plant_book.specs.Caps.{cap_of}
+use Rattle.plant_book.specs.Reserved.{total_at, now_of}
 use Rattle.plant_book.specs.Requests.{is_seen}
 use Rattle.share_policy.specs.Shares.{level_of, target_of}
 
@@ -63,7 +66,29 @@ claim_of book inverter = record { floor = floor_at book.site inverter; wish = wi
 unfoldable pub claims : BookRecord → List Claim
 claims book = map (claim_of book) (range_with_len 0 (inverters book.site))
 
--- the greatest limit in milliwatts that the policy allows the inverter
-unfoldable pub target : BookRecord → ℕ → ℕ
-target book inverter = target_of book.site.policy (level_of book.site.cap (claims book))
+-- the greatest limit in milliwatts that the policy allows the inverter under the cap in force
+unfoldable pub policy_target : BookRecord → ℕ → ℕ
+policy_target book inverter = target_of book.site.policy (level_of (cap_of book) (claims book))
     (claim_of book inverter)
+
+-- what an inverter's fall share goes by: neither wishes nor strangeness count
+abbrev pub fall_claim : SiteRecord → ℕ → Claim
+fall_claim site inverter = record { floor = floor_at site inverter; wish = rated_at site inverter; rated = rated_at site inverter }
+
+unfoldable pub fall_claims : SiteRecord → List Claim
+fall_claims site = map (fall_claim site) (range_with_len 0 (inverters site))
+
+-- The fall share of an inverter under a cap: its fair share if every inverter wished for its rating.
+unfoldable pub fall_share : SiteRecord → ℕ → ℕ → ℕ
+fall_share site cap inverter = target_of policies.Fair (level_of cap (fall_claims site)) (fall_claim site inverter)
+
+-- The greatest limit in milliwatts that the inverter may ask for at a moment: the policy's, and no more than its
+-- fall share while more is reserved than the cap in force.
+unfoldable pub target_at : BookRecord → ℕ → ℕ → ℕ
+target_at book now inverter = if nat_lt (cap_of book) (total_at book now)
+    then min (policy_target book inverter) (fall_share book.site (cap_of book) inverter)
+    else policy_target book inverter
+
+-- the same at the last moment of the book
+abbrev pub target : BookRecord → ℕ → ℕ
+target book inverter = target_at book (now_of book) inverter

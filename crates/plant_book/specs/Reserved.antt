@@ -5,6 +5,7 @@ use Rattle.plant_book.specs.Sums.{sum_below}
 use Rattle.plant_book.specs.Site.{SiteRecord, inverters, mw_at, floor_at}
 use Rattle.plant_book.specs.Book.{BookRecord}
 use Rattle.plant_book.specs.Calls.{latest}
+use Rattle.plant_book.specs.Caps.{cap_of}
 use Rattle.plant_book.specs.Writes.{live}
 
 -- the greatest of the floor and the limits of these writes
@@ -20,9 +21,9 @@ reserved_at book now inverter = covering book.site inverter (live book.site.rule
 unfoldable pub total_at : BookRecord → ℕ → ℕ
 total_at book now = sum_below (inverters book.site) (reserved_at book now)
 
--- what of the cap is not reserved at a moment
+-- what of the cap in force is not reserved at a moment: 0 where more than it is reserved
 unfoldable pub unreserved_at : BookRecord → ℕ → ℕ
-unreserved_at book now = book.site.cap - total_at book now
+unreserved_at book now = cap_of book - total_at book now
 
 -- the last moment of the book
 unfoldable pub now_of : BookRecord → ℕ

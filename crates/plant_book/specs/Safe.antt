@@ -1,10 +1,11 @@
 -- When a history is safe: whatever the inverters do that follow the timed device, their limits and what is
--- reserved for all others stay under the cap.
+-- reserved for all others stay under the ceiling.
 use Rattle.std.specs.Prelude.{◌≡◌, ℕ, ◌+◌, ◌≤◌, ◌<◌, Bool, true, if◌then◌else◌, List, ◌∷◌, ◌++◌, take}
 use Rattle.plant_book.specs.Sums.{sum_below}
 use Rattle.plant_book.specs.Site.{SiteRecord, inverters, mw_at}
 use Rattle.plant_book.specs.Book.{BookRecord}
 use Rattle.plant_book.specs.Reserved.{reserved, now_of}
+use Rattle.plant_book.specs.Ceiling.{ceiling}
 use Rattle.plant_book.specs.Answered.{with_entries}
 use Rattle.plant_book.specs.History.{History, lives}
 use Rattle.plant_book.specs.Behaviour.{Timed, held, IsBehaviour}
@@ -18,7 +19,7 @@ held_mw site inverter events = mw_at site inverter (held site inverter events)
 -- last of
 -- the history on, and each choice of cuts at it: the limits that the set holds and what is reserved for the
 -- others
--- sum to at most the cap.
+-- sum to at most the ceiling of the last life.
 abbrev pub IsSafe : History → Type 0
 IsSafe history = (among : ℕ → Bool) (events first rest : ℕ → List Timed) (at : ℕ)
     → ((inverter : ℕ) → inverter < inverters history.life.site → among inverter ≡ true
@@ -30,7 +31,7 @@ IsSafe history = (among : ℕ → Bool) (events first rest : ℕ → List Timed)
     then held_mw history.life.site inverter (first inverter) else 0)
     + sum_below (inverters history.life.site) (λ inverter. if among inverter then 0
     else reserved history.life inverter)
-    ≤ history.life.site.cap
+    ≤ ceiling history.life
 
 -- the history up to one of its lives, and of that life the first entries
 abbrev pub up_to : History → List BookRecord → BookRecord → ℕ → History

@@ -1,7 +1,9 @@
 ghost use Rattle.std.specs.Prelude.{◌≡◌, ◌<◌, ◌≤◌, ◌*◌, ◌^◌, Some, IfOk, List, [], ◌∷◌, ◌++◌, length, slice_get};
-ghost use Rattle.plant_book.specs.Site.{inverters, mw_at, floor_at, floor_raw_at, full_at, rated_at, raw_at};
+ghost use Rattle.plant_book.specs.Site.{inverters, floors, mw_at, floor_at, floor_raw_at, full_at, rated_at, raw_at};
 ghost use Rattle.plant_book.specs.Calls.{latest};
 ghost use Rattle.plant_book.specs.Reserved.{now_of};
+ghost use Rattle.plant_book.specs.Answer.{silent_until};
+ghost use Rattle.plant_book.specs.Answered.{IsBook};
 
 use crate::call::{Call, Reply};
 use crate::site::{Site, Unit};
@@ -72,6 +74,13 @@ impl Book {
         latest(self.start, &self.entries)
     }
 
+    /// The moment at which the book begins, in ms.
+    pub(crate) fn start(&self) -> u64
+        ensures { result ≡ self.now.start }
+    {
+        self.start
+    }
+
     /// Writes one more entry at the end.
     pub fn push(&mut self, entry: Entry)
         requires { length self.old.entries < self.old.site.room }
@@ -113,11 +122,28 @@ impl Book {
     }
 
     /// The cap of the site, in mW.
-    pub(crate) fn cap(&self) -> u64
+    pub(crate) fn site_cap(&self) -> u64
         ensures { result ≡ self.now.site.cap }
     {
         let site = &self.site;
         site.cap
+    }
+
+    /// The milliwatts of all floors.
+    pub(crate) fn floors(&self) -> u64
+        requires { IsBook self.now }
+        ensures { result ≡ floors self.now.site }
+    {
+        let site = &self.site;
+        site.floors()
+    }
+
+    /// The last moment at which earlier lives may still act, in ms.
+    pub(crate) fn silent_until(&self) -> u64
+        requires { IsBook self.now }
+        ensures { result ≡ silent_until self.now }
+    {
+        self.start + self.rules().reach()
     }
 
     /// The policy of the site.
@@ -181,7 +207,7 @@ impl Book {
 }
 
 /// The moment of the last of the entries, or the start where there is none, in ms.
-fn latest(start: u64, entries: &[Entry]) -> u64
+pub(crate) fn latest(start: u64, entries: &[Entry]) -> u64
     ensures { result ≡ latest start entries.now }
 {
     match entries.last() {

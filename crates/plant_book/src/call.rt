@@ -1,5 +1,7 @@
 ghost use Rattle.std.specs.Prelude.{◌≡◌};
 
+use crate::site::CAP_MAX;
+
 /// The greatest moment, in ms.
 pub const MOMENT_MAX: u64 = limiter_num::MOMENT_MAX;
 
@@ -95,6 +97,11 @@ pub enum Call {
     Stop {
         at: u64,
     },
+    /// From now on the cap is to be so many mW.
+    Cap {
+        at: u64,
+        mw: u64,
+    },
 }
 
 impl Call {
@@ -114,7 +121,8 @@ impl Call {
             | Call::Back { at, .. }
             | Call::Want { at, .. }
             | Call::Tick { at }
-            | Call::Stop { at } => at,
+            | Call::Stop { at }
+            | Call::Cap { at, .. } => at,
         }
     }
 
@@ -129,16 +137,17 @@ impl Call {
             | Call::Saw { inverter, .. }
             | Call::Back { inverter, .. }
             | Call::Want { inverter, .. } => Some(inverter),
-            Call::Tick { .. } | Call::Stop { .. } => None,
+            Call::Tick { .. } | Call::Stop { .. } | Call::Cap { .. } => None,
         }
     }
 
-    /// Whether the numbers of the call are in their ranges: only a wish may be above the greatest.
+    /// Whether the numbers of the call are in their ranges: only a wish or a cap may be above the greatest.
     pub fn is_in_range(&self) -> bool
         ensures { IsTrue result ↔ IsInRange self.now }
     {
         match *self {
             Call::Want { mw, .. } => mw <= WISH_MAX,
+            Call::Cap { mw, .. } => mw <= CAP_MAX,
             Call::Ask { raw: _raw, .. } => true,
             Call::Saw {
                 number: _number,
@@ -187,6 +196,7 @@ impl Call {
             Call::Want { inverter, mw, .. } => Call::Want { at, inverter, mw },
             Call::Tick { .. } => Call::Tick { at },
             Call::Stop { .. } => Call::Stop { at },
+            Call::Cap { mw, .. } => Call::Cap { at, mw },
         }
     }
 }
@@ -226,4 +236,8 @@ pub enum Reply {
     Strange(u16),
     /// There is no live write of these numbers.
     NoWrite,
+    /// The cap is set, in mW; until all writes from before are past, all limits together stay under the ceiling.
+    CapSet { cap: u64, ceiling: u64 },
+    /// The cap would be below the floors of all inverters, the least, or above the site's, the most; it stays.
+    CapOut { least: u64, most: u64 },
 }

@@ -6,6 +6,7 @@
 
 mod book;
 mod call;
+mod caps;
 mod laws;
 mod live;
 mod policy;
@@ -17,9 +18,11 @@ mod site;
 
 pub use book::{Book, ENTRY_BYTES_MAX, Entry};
 pub use call::{Call, LIVE_MAX, MOMENT_MAX, REQUESTS_MAX, Read, Reply, WISH_MAX, Write};
+pub use caps::{cap_plain, ceiling_plain};
 pub use laws::{
-    behaviours_exist, claims_are_feasible, histories_are_safe, no_write_could_go_sooner,
-    reservations_live_on,
+    behaviours_exist, caps_are_told, claims_are_feasible, histories_are_safe,
+    no_write_could_go_sooner, reservations_live_on, totals_come_back_under_the_cap,
+    what_is_held_is_reserved,
 };
 pub use port::Port;
 pub use replies::{answer, goal_plain, is_stopped, reserved_plain, total_plain};

@@ -116,7 +116,7 @@ fn live_grant(
 }
 
 /// The writes of the inverter that are live at the moment.
-fn live_among(rules: &Rules, entries: &[Entry], now: u64, inverter: u8) -> LiveWrites
+pub fn live_among(rules: &Rules, entries: &[Entry], now: u64, inverter: u8) -> LiveWrites
     requires { length (rule.live rules.now entries.now now inverter) ≤ 32 }
     ensures { result.items ≡ rule.live rules.now entries.now now inverter }
 {

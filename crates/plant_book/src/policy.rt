@@ -1,12 +1,16 @@
-ghost use Rattle.std.specs.Prelude.{◌≡◌, ◌<◌};
+ghost use Rattle.std.specs.Prelude.{◌≡◌, ◌<◌, ◌≤◌};
 ghost use Rattle.plant_book.specs.Site.{inverters};
 ghost use Rattle.plant_book.specs.Policy as rule;
 ghost use Rattle.plant_book.specs.Sums.{last_that};
-ghost use Rattle.plant_book.specs.Answered.{IsOpenable};
+ghost use Rattle.plant_book.specs.Caps.{cap_of};
+ghost use Rattle.plant_book.specs.Reserved.{now_of};
+ghost use Rattle.plant_book.specs.Answered.{IsOpenable, IsBook};
 
 use crate::book::{Book, Entry};
 use crate::call::{Call, Reply};
+use crate::caps::cap_plain;
 use crate::requests::is_seen;
+use crate::reserved::total_at;
 use crate::site::INVERTERS_MAX;
 use arrayvec::ArrayVec;
 use share_policy::{Claim, Policy, level};
@@ -117,19 +121,71 @@ fn claims(book: &Book) -> ArrayVec<Claim, INVERTERS_MAX>
     claims
 }
 
-/// The greatest limit that the policy allows the inverter, in mW.
-#[tactic(auto, unfolding(crate::specs::Policy::target))]
-pub fn target(book: &Book, inverter: u8) -> u64
-    requires openable { IsOpenable book.now.site }
+/// What the fall share of the inverter goes by.
+fn fall_claim(book: &Book, inverter: u8) -> Claim
+    requires { inverter < inverters book.now.site }
+    ensures { result ≡ rule.fall_claim book.now.site inverter }
+{
+    let rated = book.rated(inverter);
+    Claim {
+        floor: book.floor(inverter),
+        wish: rated,
+        rated,
+    }
+}
+
+/// The same of all inverters in the order of their numbers.
+fn fall_claims(book: &Book) -> ArrayVec<Claim, INVERTERS_MAX>
+    requires { IsOpenable book.now.site }
+    ensures { result.items ≡ rule.fall_claims book.now.site }
+{
+    let mut claims = ArrayVec::new();
+    for inverter in 0..book.inverters() as u8 {
+        claims.push(fall_claim(book, inverter));
+    }
+    claims
+}
+
+/// The fall share of the inverter under the cap in force, in mW.
+#[tactic(auto, unfolding(crate::specs::Policy::fall_share))]
+fn fall_share(book: &Book, inverter: u8) -> u64
+    requires book { IsBook book.now }
     requires of_site { inverter < inverters book.now.site }
-    ensures { result ≡ rule.target book.now inverter }
+    ensures { result ≡ rule.fall_share book.now.site (cap_of book.now) inverter }
+{
+    let level = level(cap_plain(book), fall_claims(book).as_slice());
+    share_policy::target(Policy::Fair, level, &fall_claim(book, inverter))
+}
+
+/// The greatest limit that the policy allows the inverter under the cap in force, in mW.
+#[tactic(auto, unfolding(crate::specs::Policy::policy_target))]
+fn policy_target(book: &Book, inverter: u8) -> u64
+    requires book { IsBook book.now }
+    requires of_site { inverter < inverters book.now.site }
+    ensures { result ≡ rule.policy_target book.now inverter }
 {
     let claim = claim_of(book, inverter);
     match book.policy() {
         Policy::Open => claim.rated,
         Policy::Fair => {
-            let level = level(book.cap(), claims(book).as_slice());
+            let level = level(cap_plain(book), claims(book).as_slice());
             share_policy::target(Policy::Fair, level, &claim)
         }
+    }
+}
+
+/// The greatest limit that the inverter may ask for at a moment from the last of the book on, in mW.
+#[tactic(auto, unfolding(crate::specs::Policy::target_at))]
+pub fn target_at(book: &Book, now: u64, inverter: u8) -> u64
+    requires book { IsBook book.now }
+    requires later { now_of book.now ≤ now }
+    requires of_site { inverter < inverters book.now.site }
+    ensures { result ≡ rule.target_at book.now now inverter }
+{
+    let target = policy_target(book, inverter);
+    if total_at(book, now) > cap_plain(book) {
+        target.min(fall_share(book, inverter))
+    } else {
+        target
     }
 }

@@ -10,8 +10,9 @@ ghost use Rattle.plant_book.specs.Answered.{IsBook, IsNext};
 
 use crate::book::{Book, Entry};
 use crate::call::{Call, LIVE_MAX, REQUESTS_MAX, Read, Reply, Write};
+use crate::caps::{cap_plain, ceiling_with};
 use crate::live::{LiveWrites, is_numbered, left_by, live_writes};
-use crate::policy::target;
+use crate::policy::target_at;
 use crate::requests::{link_number, pending_read, requests};
 use crate::reserved::{covering, reserved_at, total_at};
 
@@ -40,6 +41,7 @@ pub fn answer(book: &Book, call: &Call) -> Reply
             number,
         } => reply_to_back(book, at, inverter, link, number),
         Call::Tick { at } => Reply::Total(total_at(book, at)),
+        Call::Cap { at, mw } => reply_to_cap(book, at, mw),
         Call::Want { .. } | Call::Stop { .. } => Reply::Taken,
     }
 }
@@ -83,11 +85,11 @@ fn reply_by_policy(book: &Book, write: &Write) -> Reply
     if write.raw > full {
         return Reply::Over(full);
     }
-    let silent_until = book.start + book.rules().reach();
+    let silent_until = book.silent_until();
     if write.at <= silent_until {
         return Reply::Silent(silent_until);
     }
-    let target = target(book, write.inverter);
+    let target = target_at(book, write.at, write.inverter);
     if book.mw(write.inverter, write.raw) > target {
         return Reply::NotAllowed(book.raw_at_most(write.inverter, target));
     }
@@ -103,7 +105,7 @@ fn reply_by_watts(book: &Book, write: &Write) -> Reply
     requires write { write.now ≡ rule.write_at book.now write.now.at write.now.inverter write.now.raw }
     ensures { result ≡ rule.reply_by_watts book.now write.now.at write.now.inverter write.now.raw }
 {
-    let unreserved = book.cap().saturating_sub(total_at(book, write.at));
+    let unreserved = cap_plain(book).saturating_sub(total_at(book, write.at));
     let reserved = reserved_at(book, write.at, write.inverter);
     if reserved.max(book.mw(write.inverter, write.raw)) - reserved > unreserved {
         return Reply::NoWatts(unreserved);
@@ -218,6 +220,24 @@ fn has_numbers(writes: &[Write], inverter: u8, link: u32, number: u16) -> bool
         .any(|write| is_numbered(write, inverter, link, number))
 }
 
+/// The reply to a Cap: the floors have to fit under it, and it may not be above the site's.
+#[tactic(auto, unfolding(crate::specs::Answer::reply_to_cap))]
+fn reply_to_cap(book: &Book, now: u64, mw: u64) -> Reply
+    requires book { IsBook book.now }
+    requires later { sums.now_of book.now ≤ now }
+    ensures { result ≡ rule.reply_to_cap book.now now mw }
+{
+    let least = book.floors();
+    let most = book.site_cap();
+    if mw < least || mw > most {
+        return Reply::CapOut { least, most };
+    }
+    Reply::CapSet {
+        cap: mw,
+        ceiling: ceiling_with(book, now, mw),
+    }
+}
+
 /// What is reserved for the inverter at the last moment of the book, in mW.
 pub fn reserved_plain(book: &Book, inverter: u8) -> u64
     requires book { IsBook book.now }
@@ -244,9 +264,9 @@ pub fn goal_plain(book: &Book, inverter: u8) -> u16
     ensures { result ≡ rule.goal_raw book.now inverter }
 {
     let now = book.latest();
-    let unreserved = book.cap().saturating_sub(total_at(book, now));
+    let unreserved = cap_plain(book).saturating_sub(total_at(book, now));
     let most = reserved_at(book, now, inverter) + unreserved;
-    book.raw_at_most(inverter, target(book, inverter).min(most))
+    book.raw_at_most(inverter, target_at(book, now, inverter).min(most))
 }
 
 /// Whether a Stop stands in the book.

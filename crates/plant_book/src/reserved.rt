@@ -2,11 +2,12 @@ ghost use Rattle.std.specs.Prelude.{◌≡◌, ◌≤◌, ◌<◌, ◌*◌, ◌^
 ghost use Rattle.limiter_num.specs.Rating.{mw};
 ghost use Rattle.plant_book.specs.Site.{inverters};
 ghost use Rattle.plant_book.specs.Reserved as sums;
-ghost use Rattle.plant_book.specs.Answered.{IsBook};
+ghost use Rattle.plant_book.specs.Calls.{latest};
+ghost use Rattle.plant_book.specs.Answered.{IsBook, with_entries};
 
-use crate::book::Book;
+use crate::book::{Book, Entry};
 use crate::call::Write;
-use crate::live::live_writes;
+use crate::live::live_among;
 use crate::site::Unit;
 
 /// The greatest of the floor and the limits of these writes, in mW.
@@ -32,8 +33,37 @@ pub fn covering(book: &Book, inverter: u8, writes: &[Write]) -> u64
     greatest(book.unit(inverter), writes)
 }
 
-/// What is reserved for the inverter at a moment from the last of the book on, in mW.
+/// What is reserved for the inverter by these entries of the book, at a moment from their last on, in mW.
 #[tactic(auto, unfolding(crate::specs::Reserved::reserved_at))]
+fn reserved_among(book: &Book, entries: &[Entry], now: u64, inverter: u8) -> u64
+    requires book { IsBook (with_entries book.now entries.now) }
+    requires later { latest book.now.start entries.now ≤ now }
+    requires of_site { inverter < inverters book.now.site }
+    ensures watts { result ≡ sums.reserved_at (with_entries book.now entries.now) now inverter }
+    ensures below { result ≤ 65535 * 10 ^ 12 }
+{
+    covering(
+        book,
+        inverter,
+        live_among(&book.rules(), entries, now, inverter).as_slice(),
+    )
+}
+
+/// What is reserved in all by these entries of the book, at a moment from their last on, in mW.
+pub fn total_among(book: &Book, entries: &[Entry], now: u64) -> u64
+    requires book { IsBook (with_entries book.now entries.now) }
+    requires later { latest book.now.start entries.now ≤ now }
+    ensures { result ≡ sums.total_at (with_entries book.now entries.now) now }
+{
+    let mut total = 0;
+    for inverter in 0..book.inverters() as u8 {
+        total += reserved_among(book, entries, now, inverter);
+    }
+    total
+}
+
+/// What is reserved for the inverter at a moment from the last of the book on, in mW.
+#[tactic(auto, unfolding(crate::specs::Reserved::now_of))]
 pub fn reserved_at(book: &Book, now: u64, inverter: u8) -> u64
     requires book { IsBook book.now }
     requires later { sums.now_of book.now ≤ now }
@@ -41,18 +71,15 @@ pub fn reserved_at(book: &Book, now: u64, inverter: u8) -> u64
     ensures watts { result ≡ sums.reserved_at book.now now inverter }
     ensures below { result ≤ 65535 * 10 ^ 12 }
 {
-    covering(book, inverter, live_writes(book, now, inverter).as_slice())
+    reserved_among(book, book.entries(), now, inverter)
 }
 
 /// What is reserved in all at a moment from the last of the book on, in mW.
+#[tactic(auto, unfolding(crate::specs::Reserved::now_of))]
 pub fn total_at(book: &Book, now: u64) -> u64
     requires book { IsBook book.now }
     requires later { sums.now_of book.now ≤ now }
     ensures { result ≡ sums.total_at book.now now }
 {
-    let mut total = 0;
-    for inverter in 0..book.inverters() as u8 {
-        total += reserved_at(book, now, inverter);
-    }
-    total
+    total_among(book, book.entries(), now)
 }

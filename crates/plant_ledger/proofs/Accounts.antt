@@ -1,13 +1,15 @@
 -- The accounts of all inverters follow the calls.
-use Rattle.std.proofs.Common.{◌≡◌, ℕ, ◌<◌, ◌≤◌, Bool, true, false, ◌||◌, List, [], ◌∷◌, ◌++◌, length, get_or, map, take, drop, Option, Some, None, refl, sym, ap, subst, ◌∙◌, arith, inl, inr, length-set}
+use Rattle.std.proofs.Common.{◌≡◌, ℕ, ◌<◌, ◌≤◌, Bool, true, false, cond, ◌||◌, List, [], ◌∷◌, ◌++◌, length, get_or, map, take, drop, Option, Some, None, refl, sym, ap, subst, ◌∙◌, arith, inl, inr, length-set}
 use Rattle.std.specs.Prelude.{IfSome, slice_get, slice_set}
 use Rattle.std.specs.List.{list_any}
-use Rattle.std.proofs.lemmas.Bool.{cases_eq}
+use Rattle.std.proofs.lemmas.Bool.{cases_Bool, cases_eq}
 use Rattle.std.proofs.lemmas.List.{length-map, get_or-map, get_or-set_same, get_or-set_other}
 use Rattle.std.proofs.lemmas.List.Folds.{list_any-append}
 use Rattle.std.proofs.lemmas.List.Sums.{count_by-le-length}
 use Rattle.std.proofs.Math.Seq.{take-append_seam}
 use Rattle.plant_book.specs.declared.call.Call.{Call}
+use Rattle.plant_book.specs.declared.call.Call.TheVariants as calls
+use Rattle.plant_book.specs.declared.call.Reply.{Reply}
 use Rattle.plant_book.specs.declared.call.TheConstants.{MOMENT_MAX}
 use Rattle.plant_book.specs.declared.site.TheConstants.{ROOM_MAX}
 use Rattle.plant_book.specs.declared.site.Unit.{Unit as Inverter}
@@ -16,9 +18,11 @@ use Rattle.plant_book.specs.Site.{SiteRecord, inverters}
 use Rattle.plant_book.specs.Book.{BookRecord}
 use Rattle.plant_book.specs.Calls.{moment, named, latest}
 use Rattle.plant_book.specs.Requests as counted
+use Rattle.plant_book.specs.Caps.{sets_by, sets_cap, cap_by, cap_of}
 use Rattle.plant_book.specs.Reserved.{now_of}
 use Rattle.plant_book.specs.Answer.{stops, is_stopped}
 use Rattle.plant_book.specs.Answered.{IsBook, IsNext, IsAnswer, IsOpenable, with_entries}
+use Rattle.plant_book.proofs.CapInForce.{cap_of-set, cap_of-same, cap_of-empty}
 use Rattle.plant_book.proofs.Inverters.{mw_at-is, floor_at-is, floor_raw_at-is, full_at-is, rated_at-is, raw_at-is}
 use Rattle.plant_book.proofs.Steps.{latest-push}
 use Rattle.plant_book.proofs.Growth.{IsBook-push, IsBook-empty, empty_book, with_entry}
@@ -45,13 +49,14 @@ later_accounts book now later accounts le are =
           (later_account book now later inverter (get_or accounts inverter otherwise) le (are.each inverter otherwise of_site));
     }
 
-pub later_ledger : (book : BookRecord) (now later : ℕ) (accounts others : List Account) (stopped : Bool) → now ≤ later → later ≤ MOMENT_MAX → others ≡ map (account_at book.site.rules later) accounts
-    → IsLedger book now accounts stopped → IsLedger book later others stopped
-later_ledger book now later accounts others stopped le high are ledger = record {
+pub later_ledger : (book : BookRecord) (now later : ℕ) (accounts others : List Account) (cap : ℕ) (stopped : Bool) → now ≤ later → later ≤ MOMENT_MAX → others ≡ map (account_at book.site.rules later) accounts
+    → IsLedger book now accounts cap stopped → IsLedger book later others cap stopped
+later_ledger book now later accounts others cap stopped le high are ledger = record {
   kept = ledger.kept;
   later = omega (arith, ledger.later);
   high = high;
   of_inverters = subst (λ (all : List Account). AreAccounts book later all) (sym are) (later_accounts book now later accounts le ledger.of_inverters);
+  in_force = ledger.in_force;
   stop = ledger.stop;
 }
 
@@ -128,16 +133,30 @@ unfolding is_stopped
 stopped_next book entry =
     list_any-append (λ (e : Entry). stops e.call) book.entries (entry ∷ []) ∙ or_false (list_any (λ (e : Entry). stops e.call) book.entries) (stops entry.call)
 
+-- the cap in force after one more entry
+cap_next : (book : BookRecord) (entry : Entry) (cap : ℕ) → cap ≡ cap_of book → cap_of (with_entry book entry) ≡ cond (sets_cap entry) (cap_by cap entry.call) cap
+cap_next book entry cap is =
+    elim (cases_Bool (sets_cap entry)) [
+      | inl set ↦ rw set (cap_of-set book book.entries entry set ∙ set_by entry.call entry.reply book.site.cap cap set)
+      | inr other ↦ rw other (cap_of-same book book.entries entry other ∙ sym is)
+    ]
+  where
+    set_by : (call : Call) (reply : Reply) (one other : ℕ) → sets_by call reply ≡ true → cap_by one call ≡ cap_by other call
+    set_by (calls.Cap at watts) reply one other set = refl
+    set_by _ reply one other set = absurd cc
+
 -- what the ledger keeps after one more entry
-pub next_ledger : (book : BookRecord) (entry : Entry) (now : ℕ) (accounts others : List Account) (stopped after : Bool) → IsLedger book now accounts stopped → MayEnter (record { book = book; at = now }) entry
-    → Follow book entry accounts others → after ≡ (stopped || stops entry.call) → IsLedger (with_entry book entry) now others after
+pub next_ledger : (book : BookRecord) (entry : Entry) (now : ℕ) (accounts others : List Account) (cap : ℕ) (stopped : Bool) → IsLedger book now accounts cap stopped → MayEnter (record { book = book; at = now }) entry
+    → Follow book entry accounts others → (in_force : ℕ) (after : Bool) → in_force ≡ cond (sets_cap entry) (cap_by cap entry.call) cap → after ≡ (stopped || stops entry.call)
+    → IsLedger (with_entry book entry) now others in_force after
 unfolding now_of
-next_ledger book entry now accounts others stopped after ledger may follow stop = record {
+next_ledger book entry now accounts others cap stopped ledger may follow in_force after set stop = record {
   kept = IsBook-push book entry ledger.kept may.room may.next may.answer;
   later = omega (arith, latest-push book.start book.entries entry, may.now);
   high = ledger.high;
   of_inverters = subst (λ (at : ℕ). AreAccounts (with_entry book entry) at others) may.now
       (next_accounts book entry accounts others (subst (λ (at : ℕ). AreAccounts book at accounts) (sym may.now) ledger.of_inverters) ledger.kept may.answer may.next follow (named entry.call) refl);
+  in_force = set ∙ sym (cap_next book entry cap ledger.in_force);
   stop = stop ∙ ap (λ (b : Bool). b || stops entry.call) ledger.stop ∙ sym (stopped_next book entry);
 }
 
@@ -147,7 +166,7 @@ unfolding counted.link_number
 few_links book now inverter account kept its =
     omega (arith, its.link, count_by-le-length (counted.is_link inverter) book.entries, kept.room, kept.openable.checked.room_high)
 
-module _ (book : BookRecord) (entry : Entry) (now : ℕ) (accounts : List Account) (stopped : Bool) (ledger : IsLedger book now accounts stopped)
+module _ (book : BookRecord) (entry : Entry) (now : ℕ) (accounts : List Account) (cap : ℕ) (stopped : Bool) (ledger : IsLedger book now accounts cap stopped)
     (may : MayEnter (record { book = book; at = now }) entry) (inverter : ℕ) (otherwise : Account) (is : named entry.call ≡ Some inverter) where
   within : inverter < inverters book.site
   within = subst (λ (o : Option ℕ). IfSome o (λ i. i < inverters book.site)) is may.next.of_site
@@ -159,7 +178,7 @@ module _ (book : BookRecord) (entry : Entry) (now : ℕ) (accounts : List Accoun
   room_left = has_room book entry now inverter (get_or accounts inverter otherwise) (ledger.of_inverters.each inverter otherwise within) is may.now ledger.high may.answer
 
 -- what the ledger keeps of a book without entries
-pub first_ledger : (site : SiteRecord) (start : ℕ) → IsOpenable site → start ≤ MOMENT_MAX → IsLedger (empty_book site start) start (map first_account site.units) false
+pub first_ledger : (site : SiteRecord) (start : ℕ) → IsOpenable site → start ≤ MOMENT_MAX → IsLedger (empty_book site start) start (map first_account site.units) site.cap false
 unfolding now_of latest is_stopped
 first_ledger site start openable low = record {
   kept = IsBook-empty site start openable low;
@@ -169,6 +188,7 @@ first_ledger site start openable low = record {
     count = length-map site.units first_account;
     each = λ inverter otherwise of_site. first_is_account site start inverter otherwise of_site;
   };
+  in_force = sym (cap_of-empty (empty_book site start));
   stop = refl;
 }
 

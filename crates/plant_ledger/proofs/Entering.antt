@@ -11,6 +11,8 @@ use Rattle.plant_book.specs.Calls as parts
 use Rattle.plant_book.specs.Reserved.{now_of}
 use Rattle.plant_book.specs.Answer.{reply_to}
 use Rattle.plant_book.specs.Answered.{IsNext, IsBook, IsOpenable, IsInRange}
+use Rattle.plant_book.specs.Covered.{TellsCap}
+use Rattle.plant_book.proofs.Lowered.{tells_cap}
 use Rattle.plant_book.proofs.Lifetime.{lives_on, changes_nothing}
 use Rattle.plant_book.proofs.Steps.{latest-push}
 use Rattle.plant_book.proofs.Growth.{IsNext-entered, IsBook-push, IsBook-empty, empty_book, with_entry}
@@ -61,6 +63,14 @@ module _ (book : BookRecord) (call moved : Call) (reply : Reply) (after : Ledger
       let left : LeavesReservations book entry (with_entry book entry) = record { lifetime = lives_on book entry right may.later; refused = changes_nothing book entry right may.later } in
       subst (λ (b : BookRecord). LeavesReservations book (entry_of book call reply) b) (sym (ap (λ (ledger : LedgerRecord). ledger.book) written))
       (subst (λ (m : Call). LeavesReservations book (record { call = m; reply = reply }) (with_entry book entry)) taken.is left)
+
+  pub tells : TellsCap book (entry_of book call reply) after.book
+  unfolding now_of
+  tells =
+      let entry : Entry = record { call = moved; reply = reply } in
+      let told : TellsCap book entry (with_entry book entry) = tells_cap book entry right (next book call moved taken).later in
+      subst (λ (b : BookRecord). TellsCap book (entry_of book call reply) b) (sym (ap (λ (ledger : LedgerRecord). ledger.book) written))
+      (subst (λ (m : Call). TellsCap book (record { call = m; reply = reply }) (with_entry book entry)) taken.is told)
 
 -- the ledger of a book without entries
 pub at_start : (site : SiteRecord) (start : ℕ) (ledger : LedgerRecord) → IsOpenable site → start ≤ MOMENT_MAX → ledger ≡ record { book = empty_book site start; at = start } → IsAtLast ledger

@@ -1,5 +1,5 @@
 -- A reply fits its call, and the account has room for it.
-use Rattle.std.proofs.Common.{◌≡◌, ℕ, ◌<◌, ◌≤◌, not, eqb, leb, ltb, length, List, refl, sym, ap, subst, ◌∙◌, arith, inl, inr}
+use Rattle.std.proofs.Common.{◌≡◌, ℕ, ◌<◌, ◌≤◌, not, ◌||◌, eqb, leb, ltb, length, List, refl, sym, ap, subst, ◌∙◌, arith, inl, inr}
 use Rattle.std.specs.Prelude.{Option, Some}
 use Rattle.std.specs.List.{list_any}
 use Rattle.std.proofs.lemmas.Bool.{cases_Bool, leb-false}
@@ -11,14 +11,14 @@ use Rattle.plant_book.specs.declared.call.Write as writes
 use Rattle.plant_book.specs.declared.call.Read as reads
 use Rattle.plant_book.specs.declared.call.TheConstants.{MOMENT_MAX, REQUESTS_MAX, LIVE_MAX}
 use Rattle.plant_book.specs.declared.book.Entry.{Entry}
-use Rattle.plant_book.specs.Site.{mw_at, full_at, floor_raw_at}
+use Rattle.plant_book.specs.Site.{mw_at, full_at, floor_raw_at, floors}
 use Rattle.plant_book.specs.Book.{BookRecord}
 use Rattle.plant_book.specs.Calls.{moment, named}
 use Rattle.plant_book.specs.Requests.{link_number, requests, pending_read}
 use Rattle.plant_book.specs.Writes.{is_numbered, live}
 use Rattle.plant_book.specs.Reserved.{unreserved_at}
-use Rattle.plant_book.specs.Policy.{target}
-use Rattle.plant_book.specs.Answer.{reply_to, reply_to_ask, reply_by_policy, reply_by_watts, reply_to_read, reply_to_saw, reply_to_back, raise_at, write_at, silent_until, is_pending, is_raw_of, reply_to_sight}
+use Rattle.plant_book.specs.Policy.{target_at}
+use Rattle.plant_book.specs.Answer.{reply_to, reply_to_ask, reply_by_policy, reply_by_watts, reply_to_read, reply_to_saw, reply_to_back, reply_to_cap, raise_at, write_at, silent_until, is_pending, is_raw_of, reply_to_sight}
 use Rattle.plant_book.specs.Answered.{IsAnswer, with_entries}
 use Rattle.plant_book.proofs.Granting.{granted_is_covered}
 use Rattle.uncertain_writes.proofs.Replies.{by_cond}
@@ -47,7 +47,7 @@ module _ (book : BookRecord) (at inverter : ℕ) where
       let P : Reply → Type 0 = λ reply. Fits book (calls.Ask at inverter raw) reply in
       by_cond P (ltb (full_at book.site inverter) raw) _ _ tt
       (by_cond P (leb at (silent_until book)) _ _ tt
-      (by_cond P (ltb (target book inverter) (mw_at book.site inverter raw)) _ _ tt (fits_by_watts raw left)))
+      (by_cond P (ltb (target_at book at inverter) (mw_at book.site inverter raw)) _ _ tt (fits_by_watts raw left)))
 
   fits_ask : (raw : ℕ) → Fits book (calls.Ask at inverter raw) (reply_to_ask book at inverter raw)
   unfolding reply_to_ask
@@ -89,6 +89,14 @@ module _ (book : BookRecord) (at inverter : ℕ) where
       let P : Reply → Type 0 = λ reply. Fits book (calls.Back at inverter link number) reply in
       by_cond P (list_any (is_numbered inverter link number) (live book.site.rules book.entries at inverter)) _ _ tt tt
 
+fits_cap : (book : BookRecord) (at watts : ℕ) → Fits book (calls.Cap at watts) (reply_to_cap book at watts)
+unfolding reply_to_cap
+fits_cap book at watts =
+    elim (cases_Bool (ltb watts (floors book.site) || ltb book.site.cap watts)) [
+      | inl out ↦ rw out tt
+      | inr set ↦ rw set tt
+    ]
+
 fits : (book : BookRecord) (call : Call) → Fits book call (reply_to book call)
 fits book (calls.Link at inverter) = tt
 fits book (calls.Ask at inverter raw) = fits_ask book at inverter raw
@@ -98,6 +106,7 @@ fits book (calls.Back at inverter link number) = fits_back book at inverter link
 fits book (calls.Want at inverter mw) = tt
 fits book (calls.Tick at) = tt
 fits book (calls.Stop at) = tt
+fits book (calls.Cap at watts) = fits_cap book at watts
 
 reply_fits : (book : BookRecord) (call : Call) (reply : Reply) → Fits book call reply → IsReplyTo call reply
 reply_fits book (calls.Ask at inverter raw) (replies.Granted write) is = is.0

@@ -163,6 +163,7 @@ own_call rules inverter account (calls.Want at other mw) reply is fits = own_wan
     own_want _ is own = rw own refl
 own_call rules inverter account (calls.Tick at) reply is fits = absurd cc
 own_call rules inverter account (calls.Stop at) reply is fits = absurd cc
+own_call rules inverter account (calls.Cap at mw) reply is fits = absurd cc
 
 -- for a call that doesn't name the inverter nothing changes
 module _ (rules : Rules) (inverter other at : ℕ) (account : Account) (apart : eqb other inverter ≡ false) where
@@ -219,6 +220,11 @@ module _ (rules : Rules) (inverter at : ℕ) (account : Account) where
   other_stop (replies.ReadAs read) is = absurd is
   other_stop _ is = refl
 
+  other_cap : (mw : ℕ) (reply : Reply) → IsReplyTo (calls.Cap at mw) reply → after_entry rules inverter (record { call = calls.Cap at mw; reply = reply }) account ≡ account
+  other_cap mw (replies.Granted write) is = absurd is
+  other_cap mw (replies.ReadAs read) is = absurd is
+  other_cap mw _ is = refl
+
 abbrev some : ℕ → Option ℕ
 some i = Some i
 
@@ -235,6 +241,7 @@ other_call rules inverter account (calls.Back at other link number) reply differ
 other_call rules inverter account (calls.Want at other mw) reply differs fits = other_want rules inverter other at account (no_number other inverter differs) mw reply fits
 other_call rules inverter account (calls.Tick at) reply differs fits = other_tick rules inverter at account reply fits
 other_call rules inverter account (calls.Stop at) reply differs fits = other_stop rules inverter at account reply fits
+other_call rules inverter account (calls.Cap at mw) reply differs fits = other_cap rules inverter at account mw reply fits
 
 module _ (book : BookRecord) (entry : Entry) (inverter : ℕ) (account : Account) (its : IsAccount book (moment entry.call) inverter account)
     (pends : PendsOwn book.entries) (answer : IsAnswer book book.entries entry) (fits : IsReplyTo entry.call entry.reply) where

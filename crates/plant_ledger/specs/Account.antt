@@ -73,3 +73,4 @@ after_call rules (calls.Back at inverter link number) reply account = after_back
 after_call rules (calls.Want at inverter mw) reply account = record account { wish = mw }
 after_call rules (calls.Tick at) reply account = account
 after_call rules (calls.Stop at) reply account = account
+after_call rules (calls.Cap at mw) reply account = account

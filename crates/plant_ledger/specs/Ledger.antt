@@ -6,6 +6,7 @@ use Rattle.plant_book.specs.declared.call.TheConstants.{MOMENT_MAX}
 use Rattle.plant_book.specs.declared.site.Unit.{Unit as Inverter}
 use Rattle.plant_book.specs.Site.{SiteRecord, inverters, mw_at, floor_at, floor_raw_at, full_at, rated_at, raw_at}
 use Rattle.plant_book.specs.Book.{BookRecord}
+use Rattle.plant_book.specs.Caps.{cap_of}
 use Rattle.plant_book.specs.Reserved.{now_of}
 use Rattle.plant_book.specs.Answer.{is_stopped}
 use Rattle.plant_book.specs.Answered.{IsBook}
@@ -34,11 +35,12 @@ pub record AreAccounts (book : BookRecord) (now : ℕ) (accounts : List Account)
       → IsAccount book now inverter (slice_index_or accounts inverter otherwise)
 
 -- what the ledger keeps are the numbers of its book
-pub record IsLedger (book : BookRecord) (now : ℕ) (accounts : List Account) (stopped : Bool) : Type 0 where
+pub record IsLedger (book : BookRecord) (now : ℕ) (accounts : List Account) (cap : ℕ) (stopped : Bool) : Type 0 where
   pub kept : IsBook book
   pub later : now_of book ≤ now
   pub high : now ≤ MOMENT_MAX
   pub of_inverters : AreAccounts book now accounts
+  pub in_force : cap ≡ cap_of book
   pub stop : stopped ≡ is_stopped book
 
 -- an account at a later moment: what is past by then is gone

@@ -1,5 +1,5 @@
 -- What an applied call leaves.
-use Rattle.std.specs.Prelude.{◌≤◌, List, [], ◌∷◌, ◌++◌}
+use Rattle.std.specs.Prelude.{List, [], ◌∷◌, ◌++◌}
 use Rattle.plant_book.specs.declared.call.Call.{Call}
 use Rattle.plant_book.specs.declared.call.Reply.{Reply}
 use Rattle.plant_book.specs.declared.call.Write as writes
@@ -7,8 +7,7 @@ use Rattle.plant_book.specs.declared.book.Entry.{Entry}
 use Rattle.plant_book.specs.Book.{BookRecord}
 use Rattle.plant_book.specs.Calls as parts
 use Rattle.plant_book.specs.Answer.{reply_to}
-use Rattle.plant_book.specs.Reserved.{total}
-use Rattle.plant_book.specs.Answered.{IsBook, with_entries}
+use Rattle.plant_book.specs.Answered.{with_entries}
 use Rattle.plant_book.specs.Lifetime.{LiveOn, ChangesNothing}
 use Rattle.plant_book.specs.History.{IsPast, life_after}
 use Rattle.plant_book.specs.Safe.{IsSafeAlways}
@@ -31,12 +30,6 @@ right_reply book call = reply_to book (parts.entered book.start book.entries cal
 abbrev pub IsSafeLife : BookRecord → Type 0
 IsSafeLife book = (past : List writes.Write) → IsPast book.site book.start past
     → IsSafeAlways (life_after past book)
-
--- what is true of the ledger's book after every call
-pub record IsKept (book : BookRecord) : Type 0 where
-  pub kept : IsBook book
-  pub capped : total book ≤ book.site.cap
-  pub safe : IsSafeLife book
 
 -- what an entry leaves of the reservations
 pub record LeavesReservations (old : BookRecord) (entry : Entry) (new : BookRecord) : Type 0 where

@@ -60,7 +60,7 @@ impl Account {
             Call::Saw { raw, .. } => self.see(rules, raw, reply),
             Call::Back { link, number, .. } => self.give_back(link, number, reply),
             Call::Want { mw, .. } => self.wish = mw,
-            Call::Tick { .. } | Call::Stop { .. } => {}
+            Call::Tick { .. } | Call::Stop { .. } | Call::Cap { .. } => {}
         }
     }
 

@@ -1,6 +1,7 @@
 //! A book, and the account of each inverter.
-ghost use Rattle.std.specs.Prelude.{◌≡◌, ℕ, ◌<◌, ◌≤◌, ◌^◌, ◌||◌, [], ◌∷◌, ◌++◌, length, map, Some, None, IfOk, IfSome, slice_get, slice_set, slice_index_or};
-ghost use Rattle.plant_book.specs.Site.{inverters};
+ghost use Rattle.std.specs.Prelude.{◌≡◌, ℕ, ◌<◌, ◌≤◌, ◌^◌, ◌||◌, if◌then◌else◌, [], ◌∷◌, ◌++◌, length, map, Some, None, IfOk, IfSome, slice_get, slice_set, slice_index_or};
+ghost use Rattle.plant_book.specs.Site.{inverters, floors};
+ghost use Rattle.plant_book.specs.Caps.{sets_cap, cap_by, cap_of};
 ghost use Rattle.plant_book.specs.Calls.{moment, named};
 ghost use Rattle.plant_book.specs.Answer.{silent_until, stops, is_stopped};
 ghost use Rattle.plant_book.specs.Answered.{IsBook, IsOpenable, IsNext, IsAnswer, with_entries};
@@ -10,7 +11,7 @@ ghost use Rattle.plant_ledger.specs.Ledger.{IsUnit, account_at};
 
 use crate::account::Account;
 use limiter_num::{NoMemory, Rules};
-use plant_book::{Book, Call, Entry, MOMENT_MAX, Policy, Site, Unit};
+use plant_book::{Book, Call, Entry, MOMENT_MAX, Policy, Reply, Site, Unit};
 use std::alloc::Global;
 use std::marker::Model;
 
@@ -20,6 +21,7 @@ pub struct Ledger {
     book: Book,
     moment: u64,
     accounts: Vec<Account>,
+    cap: u64,
     stopped: bool,
 }
 
@@ -30,7 +32,7 @@ impl Model for Ledger {
 
     ghost view = { λ l. record { book = l.book; at = l.moment } };
 
-    ghost invariant = { λ l. IsLedger l.book l.moment l.accounts.items l.stopped };
+    ghost invariant = { λ l. IsLedger l.book l.moment l.accounts.items l.cap l.stopped };
 }
 
 impl Ledger {
@@ -44,11 +46,13 @@ impl Ledger {
         }) }
     {
         let accounts = first_accounts(alloc, &site.units)?;
+        let cap = site.cap;
         let book = Book::new(alloc, site, start)?;
         Ok(Ledger {
             book,
             moment: start,
             accounts,
+            cap,
             stopped: false,
         })
     }
@@ -77,6 +81,7 @@ impl Ledger {
     {
         let rules = rules_of(&self.book);
         follow(&mut self.accounts, &rules, &entry);
+        self.cap = cap_after(self.cap, &entry);
         self.stopped = is_stopped_after(self.stopped, &entry.call);
         self.book.push(entry);
     }
@@ -92,7 +97,7 @@ impl Ledger {
     /// How many inverters the site has.
     pub fn inverters(&self) -> u8
         ensures count { result ≡ inverters self.now.book.site }
-        ensures openable { IsOpenable self.now.book.site }
+        ensures kept { IsBook self.now.book }
     {
         self.accounts.len() as u8
     }
@@ -112,12 +117,28 @@ impl Ledger {
         rules_of(&self.book)
     }
 
-    /// The cap of the site, in mW.
+    /// The cap in force, in mW.
     pub fn cap(&self) -> u64
-        ensures cap { result ≡ self.now.book.site.cap }
+        ensures cap { result ≡ cap_of self.now.book }
         ensures high { result ≤ 10 ^ 14 }
     {
-        cap_of(&self.book)
+        self.cap
+    }
+
+    /// The cap of the site, in mW.
+    pub fn site_cap(&self) -> u64
+        ensures { result ≡ self.now.book.site.cap }
+    {
+        site_cap_of(&self.book)
+    }
+
+    /// The milliwatts of all floors.
+    pub fn floors(&self) -> u64
+        ensures { result ≡ floors self.now.book.site }
+    {
+        let book = &self.book;
+        let site = &book.site;
+        site.floors()
     }
 
     /// The policy of the site.
@@ -170,7 +191,7 @@ fn rules_of(book: &Book) -> Rules
 }
 
 /// The cap of the book's site, in mW.
-fn cap_of(book: &Book) -> u64
+fn site_cap_of(book: &Book) -> u64
     ensures { result ≡ book.now.site.cap }
 {
     let site = &book.site;
@@ -231,6 +252,16 @@ fn follow(accounts: &mut [Account], rules: &Rules, entry: &Entry)
     if let Some(inverter) = entry.call.inverter() {
         let account = &mut accounts[usize::from(inverter)];
         account.follow(rules, entry);
+    }
+}
+
+/// The cap in force after one more entry, in mW.
+fn cap_after(cap: u64, entry: &Entry) -> u64
+    ensures { result ≡ (if sets_cap entry.now then cap_by cap entry.now.call else cap) }
+{
+    match (entry.call, entry.reply) {
+        (Call::Cap { mw, .. }, Reply::CapSet { .. }) => mw,
+        _ => cap,
     }
 }
 

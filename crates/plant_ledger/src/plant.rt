@@ -3,6 +3,9 @@ ghost use Rattle.plant_book.specs.Site.{inverters};
 ghost use Rattle.plant_book.specs.Calls.{moment, named};
 ghost use Rattle.plant_book.specs.Answer.{goal_raw, is_stopped};
 ghost use Rattle.plant_book.specs.Reserved as sums;
+ghost use Rattle.plant_book.specs.Caps.{cap_of};
+ghost use Rattle.plant_book.specs.Ceiling.{ceiling};
+ghost use Rattle.plant_book.specs.Covered.{CoversHeld, IsUnderCeiling, IsBackUnderCap, TellsCap};
 ghost use Rattle.plant_book.specs.Answered.{IsBook, IsInRange};
 ghost use Rattle.plant_book.specs.Tight.{IsTight};
 ghost use Rattle.plant_ledger.specs.Opening.{open_fault, ticket_for};
@@ -13,7 +16,7 @@ use crate::ledger::Ledger;
 use crate::opening::{OpenFault, refuse};
 use crate::ticket::{Ticket, ticket_with};
 use limiter_num::NoMemory;
-use plant_book::{Call, Entry, MOMENT_MAX, Reply, Site, Write};
+use plant_book::{Call, Entry, MOMENT_MAX, Reply, Site, Write, ceiling_plain};
 use std::alloc::Global;
 use std::marker::Model;
 
@@ -68,6 +71,9 @@ impl Plant {
         ensures opened { IfOk result (λ plant. plant ≡ record { site = site; start = start; entries = [] }) }
         ensures openable { OnOk result (open_fault site ≡ None) }
         ensures kept { IfOk result (λ plant. IsBook plant) }
+        ensures capped { IfOk result (λ plant. IsUnderCeiling plant) }
+        ensures back { IfOk result (λ plant. IsBackUnderCap plant) }
+        ensures covered { IfOk result (λ plant. CoversHeld plant) }
         ensures safe { IfOk result (λ plant. IsSafeLife plant) }
         ensures tight { IfOk result (λ plant. IsTight plant) }
 
@@ -84,8 +90,7 @@ impl Plant {
     }
 
     /// Enters a call with the greater of its moment and the last moment, and answers it. A Want wishes for at
-    /// most
-    /// 10^14 mW.
+    /// most 10^14 mW, and a Cap is for at most as many.
     pub fn apply(&mut self, call: Call) -> Result<Outcome, BookFull>
         requires moment { moment call ≤ MOMENT_MAX }
         requires of_site { IfSome (named call) (λ inverter. inverter < inverters self.old.site) }
@@ -104,9 +109,19 @@ impl Plant {
         ensures full { IfErr result (λ full. (full.calls ≡ length self.old.entries)
             × (full.calls ≡ self.old.site.room) × (self.new ≡ self.old)) }
 
-        // The book stays one of right replies, and all limits together stay under the cap.
+        // Only a Cap that is answered so changes the cap, and the reply tells the ceiling right after it.
+        ensures told { IfOk result (λ outcome.
+            TellsCap self.old (entry_of self.old call outcome.reply) self.new) }
+
+        // The book stays one of right replies, and what is reserved in all stays under the ceiling: the site's cap
+        // through the silence, and within reach of a lowering what was reserved right after it. Past that it is
+        // back under the cap.
         ensures kept { IsBook self.new }
-        ensures capped { sums.total self.new ≤ self.new.site.cap }
+        ensures capped { IsUnderCeiling self.new }
+        ensures back { IsBackUnderCap self.new }
+
+        // Behind the silence, and in the first life of a plant, what an inverter may hold is reserved for it.
+        ensures covered { CoversHeld self.new }
 
         // Whatever past that fits the life followed, and whatever inverters did that follow the timed device.
         // And no
@@ -134,6 +149,7 @@ impl Plant {
         ensures entered { self.new ≡ entered self.old call result }
         ensures reply { result ≡ right_reply self.old call }
         ensures reserved { LeavesReservations self.old (entry_of self.old call result) self.new }
+        ensures told { TellsCap self.old (entry_of self.old call result) self.new }
         ensures kept { IsBook self.new }
     {
         let call = call.at_moment(call.at().max(self.ledger.now()));
@@ -156,8 +172,12 @@ impl Plant {
         ensures room { IsOk result ↔ (length self.old.entries < self.old.site.room) }
         ensures full { IfErr result (λ refused. (refused.0.calls ≡ length self.old.entries)
             × (refused.0.calls ≡ self.old.site.room) × (refused.1 ≡ ticket) × (self.new ≡ self.old)) }
+        ensures told { IfOk result (λ reply.
+            TellsCap self.old (entry_of self.old (back_of ticket at) reply) self.new) }
         ensures kept { IsBook self.new }
-        ensures capped { sums.total self.new ≤ self.new.site.cap }
+        ensures capped { IsUnderCeiling self.new }
+        ensures back { IsBackUnderCap self.new }
+        ensures covered { CoversHeld self.new }
         ensures safe { IsSafeLife self.new }
         ensures tight { IsTight self.new }
     {
@@ -208,7 +228,21 @@ impl Plant {
         self.ledger.total()
     }
 
-    /// What of the cap isn't reserved at the last moment, in mW.
+    /// The cap in force, in mW: that of the last Cap answered CapSet, or the site's.
+    pub fn cap(&self) -> u64
+        ensures { result ≡ cap_of self.now }
+    {
+        self.ledger.cap()
+    }
+
+    /// What all limits together stay under at the last moment, in mW, also right behind a lowering of the cap.
+    pub fn ceiling(&self) -> u64
+        ensures { result ≡ ceiling self.now }
+    {
+        ceiling_plain(self.ledger.book())
+    }
+
+    /// What of the cap in force isn't reserved at the last moment, in mW: 0 where more than it is reserved.
     pub fn unreserved(&self) -> u64
         ensures { result ≡ sums.unreserved self.now }
     {

@@ -35,6 +35,7 @@ impl Ledger {
                 ..
             } => self.reply_to_back(inverter, link, number),
             Call::Tick { .. } => Reply::Total(self.total()),
+            Call::Cap { mw, .. } => self.reply_to_cap(mw),
             Call::Want { .. } | Call::Stop { .. } => Reply::Taken,
         }
     }
@@ -175,6 +176,32 @@ impl Ledger {
         } else {
             Reply::NoWrite
         }
+    }
+
+    /// The reply to a Cap: the floors have to fit under it, and the site's cap to be no lower.
+    #[tactic(auto, unfolding(plant_book::specs::Answer::reply_to_cap))]
+    fn reply_to_cap(&self, mw: u64) -> Reply
+        ensures { result ≡ rule.reply_to_cap self.now.book self.now.at mw }
+    {
+        let least = self.floors();
+        let most = self.site_cap();
+        if mw < least || mw > most {
+            return Reply::CapOut { least, most };
+        }
+        Reply::CapSet {
+            cap: mw,
+            ceiling: self.ceiling_with(mw),
+        }
+    }
+
+    /// The ceiling right after this cap is set. Both are in mW.
+    fn ceiling_with(&self, mw: u64) -> u64
+        ensures { result ≡ rule.ceiling_with self.now.book self.now.at mw }
+    {
+        if self.now() <= self.silent_until() {
+            return self.site_cap();
+        }
+        mw.max(self.total())
     }
 }
 

@@ -2,6 +2,7 @@
 ghost use Rattle.std.specs.Prelude.{◌≡◌, ◌<◌, if◌then◌else◌};
 ghost use Rattle.limiter_num.specs.Rating.{mw, rated};
 ghost use Rattle.plant_book.specs.Site.{inverters};
+ghost use Rattle.plant_book.specs.Caps.{cap_of};
 ghost use Rattle.share_policy.specs.Claims.{IsFeasible};
 ghost use Rattle.plant_book.specs.Policy as rule;
 
@@ -30,7 +31,7 @@ impl Ledger {
     /// The claims of all inverters in the order of their numbers.
     fn claims(&self) -> ArrayVec<Claim, INVERTERS_MAX>
         ensures claims { result.items ≡ rule.claims self.now.book }
-        ensures feasible { IsFeasible self.now.book.site.cap (rule.claims self.now.book) }
+        ensures feasible { IsFeasible (cap_of self.now.book) (rule.claims self.now.book) }
     {
         let mut claims = ArrayVec::new();
         for inverter in 0..self.inverters() {
@@ -39,11 +40,11 @@ impl Ledger {
         claims
     }
 
-    /// The greatest limit that the policy allows the inverter, in mW.
-    #[tactic(auto, unfolding(plant_book::specs::Policy::target))]
-    pub fn target(&self, inverter: u8) -> u64
+    /// The greatest limit that the policy allows the inverter under the cap in force, in mW.
+    #[tactic(auto, unfolding(plant_book::specs::Policy::policy_target))]
+    fn policy_target(&self, inverter: u8) -> u64
         requires { inverter < inverters self.now.book.site }
-        ensures { result ≡ rule.target self.now.book inverter }
+        ensures { result ≡ rule.policy_target self.now.book inverter }
     {
         let claim = self.claim(inverter);
         match self.policy() {
@@ -52,6 +53,56 @@ impl Ledger {
                 let level = level(self.cap(), self.claims().as_slice());
                 share_policy::target(Policy::Fair, level, &claim)
             }
+        }
+    }
+
+    /// What the fall share of the inverter goes by.
+    fn fall_claim(&self, inverter: u8) -> Claim
+        requires { inverter < inverters self.now.book.site }
+        ensures { result ≡ rule.fall_claim self.now.book.site inverter }
+    {
+        let unit = self.unit(inverter);
+        let rated = unit.rating.mw(unit.rating.full());
+        Claim {
+            floor: unit.rating.mw(unit.floor),
+            wish: rated,
+            rated,
+        }
+    }
+
+    /// The same of all inverters in the order of their numbers.
+    fn fall_claims(&self) -> ArrayVec<Claim, INVERTERS_MAX>
+        ensures claims { result.items ≡ rule.fall_claims self.now.book.site }
+        ensures feasible { IsFeasible (cap_of self.now.book) (rule.fall_claims self.now.book.site) }
+    {
+        let mut claims = ArrayVec::new();
+        for inverter in 0..self.inverters() {
+            claims.push(self.fall_claim(inverter));
+        }
+        claims
+    }
+
+    /// The fall share of the inverter under the cap in force, in mW.
+    #[tactic(auto, unfolding(plant_book::specs::Policy::fall_share))]
+    fn fall_share(&self, inverter: u8) -> u64
+        requires { inverter < inverters self.now.book.site }
+        ensures { result ≡ rule.fall_share self.now.book.site (cap_of self.now.book) inverter }
+    {
+        let level = level(self.cap(), self.fall_claims().as_slice());
+        share_policy::target(Policy::Fair, level, &self.fall_claim(inverter))
+    }
+
+    /// The greatest limit that the inverter may ask for, in mW.
+    #[tactic(auto, unfolding(plant_book::specs::Policy::target_at))]
+    pub fn target(&self, inverter: u8) -> u64
+        requires { inverter < inverters self.now.book.site }
+        ensures { result ≡ rule.target_at self.now.book self.now.at inverter }
+    {
+        let target = self.policy_target(inverter);
+        if self.total() > self.cap() {
+            target.min(self.fall_share(inverter))
+        } else {
+            target
         }
     }
 }

@@ -371,3 +371,5 @@ fn wishes_share_the_cap(rt: HostRuntime) -> Result<(), Fail> {
     assert_ne!(rt; plant.goal(1), goal);
     Ok(())
 }
+
+mod caps;

@@ -3,6 +3,7 @@ ghost use Rattle.plant_book.specs.Site.{inverters};
 ghost use Rattle.plant_book.specs.Calls.{moment, named};
 ghost use Rattle.plant_book.specs.Reserved.{now_of, total};
 ghost use Rattle.plant_book.specs.Answered.{IsBook, IsInRange};
+ghost use Rattle.plant_book.specs.Covered.{IsUnderCeiling, IsBackUnderCap};
 ghost use Rattle.plant_book.specs.History.{IsPast};
 ghost use Rattle.plant_ledger.specs.Opening.{open_fault, ticket_for};
 ghost use Rattle.plant_ledger.specs.Plant.{entry_of, entered, right_reply, LeavesReservations};
@@ -67,6 +68,8 @@ impl Lives {
         ensures full { IfErr result (λ full. (full.calls ≡ length self.old.entries)
             × (full.calls ≡ self.old.site.room) × (self.new ≡ self.old)) }
         ensures capped { total self.new ≤ self.new.site.cap }
+        ensures ceiling { IsUnderCeiling self.new }
+        ensures back { IsBackUnderCap self.new }
 
         // Whatever lives came before: with this one they are a history, safe at every moment.
         ensures chain { GoesOn self.old self.new }

@@ -55,6 +55,7 @@ made_by book inverter (calls.Back at other link number) reply read answer is mad
 made_by book inverter (calls.Want at other mw) reply read answer is made = absurd cc
 made_by book inverter (calls.Tick at) reply read answer is made = absurd cc
 made_by book inverter (calls.Stop at) reply read answer is made = absurd cc
+made_by book inverter (calls.Cap at watts) reply read answer is made = absurd cc
 
 -- each inverter's pending read behind these entries is one of its own
 pub record PendsOwn (entries : List Entry) : Type 0 where

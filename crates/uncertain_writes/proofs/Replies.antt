@@ -1,5 +1,5 @@
 -- What the reply to a call does to an inverter's live writes, by the definition and by the list.
-use Rattle.std.proofs.Common.{◌≡◌, ℕ, Bool, true, false, cond, not, ◌&&◌, eqb, leb, ltb, List, [], ◌++◌, length, Option, Some, None, refl, sym, ap, ◌∙◌, arith, inl, inr}
+use Rattle.std.proofs.Common.{◌≡◌, ℕ, Bool, true, false, cond, not, ◌&&◌, ◌||◌, eqb, leb, ltb, List, [], ◌++◌, length, Option, Some, None, refl, sym, ap, ◌∙◌, arith, inl, inr}
 use Rattle.std.specs.Prelude.{filter}
 use Rattle.std.specs.List.{list_any}
 use Rattle.std.proofs.lemmas.Bool.{cases_Bool, eqb-true, eq-eqb, ne_eqb, eqb-false, le-leb, and_parts}
@@ -14,14 +14,14 @@ use Rattle.plant_book.specs.declared.call.Write as writes
 use Rattle.plant_book.specs.declared.call.Read as reads
 use Rattle.plant_book.specs.declared.call.TheConstants.{REQUESTS_MAX, LIVE_MAX}
 use Rattle.plant_book.specs.declared.book.Entry.{Entry}
-use Rattle.plant_book.specs.Site.{mw_at, full_at}
+use Rattle.plant_book.specs.Site.{mw_at, full_at, floors}
 use Rattle.plant_book.specs.Book.{BookRecord}
 use Rattle.plant_book.specs.Calls.{moment}
 use Rattle.plant_book.specs.Requests.{link_number, requests, pending_read}
 use Rattle.plant_book.specs.Writes.{granted, frees, is_numbered, ends_by, is_current, live}
 use Rattle.plant_book.specs.Reserved.{unreserved_at}
-use Rattle.plant_book.specs.Policy.{target}
-use Rattle.plant_book.specs.Answer.{reply_to, reply_to_ask, reply_by_policy, reply_by_watts, reply_to_read, reply_to_saw, reply_to_back, raise_at, write_at, silent_until, is_pending}
+use Rattle.plant_book.specs.Policy.{target_at}
+use Rattle.plant_book.specs.Answer.{reply_to, reply_to_ask, reply_by_policy, reply_by_watts, reply_to_read, reply_to_saw, reply_to_back, reply_to_cap, raise_at, write_at, silent_until, is_pending}
 use Rattle.plant_book.specs.Answered.{with_entries}
 use Rattle.uncertain_writes.specs.Live.{has_numbers, without}
 use Rattle.uncertain_writes.specs.Calls.{after_reply}
@@ -95,7 +95,7 @@ module _ (book : BookRecord) (before : List Entry) (inverter at : ℕ) (all : Li
       let old = with_entries book before in
       by_cond P (ltb (full_at book.site other) raw) _ _ (record { is = unchanged })
       (by_cond P (leb at (silent_until old)) _ _ (record { is = unchanged })
-      (by_cond P (ltb (target old other) (mw_at book.site other raw)) _ _ (record { is = unchanged }) (followed_by_watts other raw)))
+      (by_cond P (ltb (target_at old at other) (mw_at book.site other raw)) _ _ (record { is = unchanged }) (followed_by_watts other raw)))
 
   followed_ask : (other raw : ℕ) → IsFollowed book.site.rules before inverter at all (calls.Ask at other raw) (reply_to_ask (with_entries book before) at other raw)
   unfolding reply_to_ask
@@ -169,6 +169,13 @@ module _ (book : BookRecord) (before : List Entry) (inverter at : ℕ) (all : Li
       let P : Reply → Type 0 = IsFollowed book.site.rules before inverter at all (calls.Back at other link number) in
       by_cond P (list_any (is_numbered other link number) (live book.site.rules before at other)) _ _ (followed_taken other link number) (record { is = unchanged })
 
+  -- a Cap changes no write
+  followed_cap : (watts : ℕ) → IsFollowed book.site.rules before inverter at all (calls.Cap at watts) (reply_to_cap (with_entries book before) at watts)
+  unfolding reply_to_cap
+  followed_cap watts =
+      let P : Reply → Type 0 = IsFollowed book.site.rules before inverter at all (calls.Cap at watts) in
+      by_cond P (ltb watts (floors book.site) || ltb book.site.cap watts) _ _ (record { is = unchanged }) (record { is = unchanged })
+
 -- the list after a call that is answered
 pub followed : (book : BookRecord) (before : List Entry) (inverter : ℕ) (all : List writes.Write) → PendsOwn before → (call : Call)
     → IsFollowed book.site.rules before inverter (moment call) all call (reply_to (with_entries book before) call)
@@ -180,3 +187,4 @@ followed book before inverter all pends (calls.Back at other link number) = foll
 followed book before inverter all pends (calls.Want at other mw) = record { is = unchanged book before inverter at all pends }
 followed book before inverter all pends (calls.Tick at) = record { is = unchanged book before inverter at all pends }
 followed book before inverter all pends (calls.Stop at) = record { is = unchanged book before inverter at all pends }
+followed book before inverter all pends (calls.Cap at watts) = followed_cap book before inverter at all pends watts

@@ -1,5 +1,5 @@
 -- A grant finds fewer live writes of its inverter than there may be at once.
-use Rattle.std.proofs.Common.{◌≡◌, ℕ, ◌<◌, not, eqb, leb, ltb, length, ap, arith, inl, inr}
+use Rattle.std.proofs.Common.{◌≡◌, ℕ, ◌<◌, not, ◌||◌, eqb, leb, ltb, length, ap, arith, inl, inr}
 use Rattle.std.specs.List.{list_any}
 use Rattle.std.proofs.lemmas.Bool.{cases_Bool, leb-false}
 use Rattle.plant_book.specs.declared.call.Call.{Call}
@@ -8,14 +8,14 @@ use Rattle.plant_book.specs.declared.call.Reply.{Reply}
 use Rattle.plant_book.specs.declared.call.Reply.TheVariants as replies
 use Rattle.plant_book.specs.declared.call.Write as writes
 use Rattle.plant_book.specs.declared.call.TheConstants.{REQUESTS_MAX, LIVE_MAX}
-use Rattle.plant_book.specs.Site.{mw_at, full_at}
+use Rattle.plant_book.specs.Site.{mw_at, full_at, floors}
 use Rattle.plant_book.specs.Book.{BookRecord}
 use Rattle.plant_book.specs.Calls.{moment}
 use Rattle.plant_book.specs.Requests.{link_number, requests, pending_read}
 use Rattle.plant_book.specs.Writes.{is_numbered, live}
 use Rattle.plant_book.specs.Reserved.{unreserved_at}
-use Rattle.plant_book.specs.Policy.{target}
-use Rattle.plant_book.specs.Answer.{reply_to, reply_to_ask, reply_by_policy, reply_by_watts, reply_to_read, reply_to_saw, reply_to_back, raise_at, write_at, silent_until, is_pending}
+use Rattle.plant_book.specs.Policy.{target_at}
+use Rattle.plant_book.specs.Answer.{reply_to, reply_to_ask, reply_by_policy, reply_by_watts, reply_to_read, reply_to_saw, reply_to_back, reply_to_cap, raise_at, write_at, silent_until, is_pending}
 use Rattle.uncertain_writes.specs.Live.{live_max}
 use Rattle.uncertain_writes.proofs.Replies.{by_cond}
 
@@ -47,7 +47,7 @@ module _ (book : BookRecord) (now inverter : ℕ) where
       let P : Reply → Type 0 = FindsRoom book now in
       by_cond P (ltb (full_at book.site inverter) raw) _ _ (record { room = λ write is. absurd cc })
       (by_cond P (leb now (silent_until book)) _ _ (record { room = λ write is. absurd cc })
-      (by_cond P (ltb (target book inverter) (mw_at book.site inverter raw)) _ _ (record { room = λ write is. absurd cc }) (room_by_watts raw)))
+      (by_cond P (ltb (target_at book now inverter) (mw_at book.site inverter raw)) _ _ (record { room = λ write is. absurd cc }) (room_by_watts raw)))
 
   room_ask : (raw : ℕ) → FindsRoom book now (reply_to_ask book now inverter raw)
   unfolding reply_to_ask
@@ -82,6 +82,12 @@ module _ (book : BookRecord) (now inverter : ℕ) where
       let P : Reply → Type 0 = FindsRoom book now in
       by_cond P (list_any (is_numbered inverter link number) (live book.site.rules book.entries now inverter)) _ _ (record { room = λ write is. absurd cc }) (record { room = λ write is. absurd cc })
 
+-- a Cap grants nothing
+room_cap : (book : BookRecord) (now watts : ℕ) → FindsRoom book now (reply_to_cap book now watts)
+unfolding reply_to_cap
+room_cap book now watts =
+    by_cond (FindsRoom book now) (ltb watts (floors book.site) || ltb book.site.cap watts) _ _ (record { room = λ write is. absurd cc }) (record { room = λ write is. absurd cc })
+
 -- whatever the call
 pub finds_room : (book : BookRecord) (call : Call) → FindsRoom book (moment call) (reply_to book call)
 finds_room book (calls.Link at inverter) = record { room = λ write is. absurd cc }
@@ -92,3 +98,4 @@ finds_room book (calls.Back at inverter link number) = room_back book at inverte
 finds_room book (calls.Want at inverter mw) = record { room = λ write is. absurd cc }
 finds_room book (calls.Tick at) = record { room = λ write is. absurd cc }
 finds_room book (calls.Stop at) = record { room = λ write is. absurd cc }
+finds_room book (calls.Cap at watts) = room_cap book at watts

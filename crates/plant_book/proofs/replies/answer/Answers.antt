@@ -18,3 +18,7 @@ reply_to_back-requires-clause-later c = omega (arith, c.requires.next.later, ap 
 pub total_at-requires-clause-later : goal.total_at-requires-clause-later
 unfolding now_of
 total_at-requires-clause-later c = omega (arith, c.requires.next.later, ap moment c.in-Tick.is)
+
+pub reply_to_cap-requires-clause-later : goal.reply_to_cap-requires-clause-later
+unfolding now_of
+reply_to_cap-requires-clause-later c = omega (arith, c.requires.next.later, ap moment c.in-Cap.is)

@@ -15,4 +15,4 @@ invariant_of-self c =
     let made : new ≡ map (at book.site.rules) old = c.expire.ensures ∙ ap (λ (rules : Rules). map (at rules) c.deref_mut.result.now) c.rules_of-rules.ensures ∙ ap (map (at book.site.rules)) c.deref_mut.ensures.value in
     let len : length new ≡ c.self.inside.accounts.len = omega (arith, ap (λ (all : List Account). length all) made, length-map old (at book.site.rules), c.deref_mut.ensures.len, ap (λ (all : List Account). length all) c.deref_mut.ensures.value) in
     let le : c.self.inside.moment ≤ c.args.now = omega (arith, c.requires.later, ap (λ (l : LedgerRecord). l.at) c.self.view_is) in
-    later_ledger book c.self.inside.moment c.args.now old _ c.self.inside.stopped le c.requires.high (whole new old c.self.inside.accounts.len len ∙ made) c.self.invariant
+    later_ledger book c.self.inside.moment c.args.now old _ c.self.inside.cap c.self.inside.stopped le c.requires.high (whole new old c.self.inside.accounts.len len ∙ made) c.self.invariant

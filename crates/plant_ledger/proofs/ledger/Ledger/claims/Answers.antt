@@ -16,7 +16,7 @@ push-requires c = (
     length-map-range_with_len (rule.claim_of c.args.self.now.book) 0 c.loop-inverter.inverter,
     c.loop-inverter-test.true,
     c.inverters-inverter-end.ensures.count,
-    c.inverters-inverter-end.ensures.openable.few,
+    c.inverters-inverter-end.ensures.kept.openable.few,
   ),
 )
 
@@ -26,7 +26,7 @@ loop-inverter-preserved c =
     rw (c.push.ensures.items, c.loop-inverter.invariant, c.claim.ensures) (sym (map-range_with_len_more (rule.claim_of c.args.self.now.book) 0 i i (omega arith)))
 
 pub returns-clause-feasible : goal.returns-clause-feasible
-returns-clause-feasible c = claims-feasible c.args.self.now.book c.inverters-inverter-end.ensures.openable
+returns-clause-feasible c = claims-feasible c.args.self.now.book c.inverters-inverter-end.ensures.kept
 
 pub returns-clause-claims : goal.returns-clause-claims
 unfolding rule.claims

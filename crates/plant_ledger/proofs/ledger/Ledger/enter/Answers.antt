@@ -9,14 +9,14 @@ follow-requires-clause-links c = λ inverter otherwise is.
     let may : MayEnter (record { book = c.self.inside.book; at = c.self.inside.moment }) c.args.entry =
     subst (λ (ledger : LedgerRecord). MayEnter ledger c.args.entry) (sym c.self.view_is)
     (record { room = c.requires.room; next = c.requires.next; answer = c.requires.answer; now = c.requires.now }) in
-    rw c.deref_mut.ensures.value (links_left c.self.inside.book c.args.entry c.self.inside.moment c.self.inside.accounts.items c.self.inside.stopped c.self.invariant may inverter otherwise is)
+    rw c.deref_mut.ensures.value (links_left c.self.inside.book c.args.entry c.self.inside.moment c.self.inside.accounts.items c.self.inside.cap c.self.inside.stopped c.self.invariant may inverter otherwise is)
 
 pub follow-requires-clause-room : goal.follow-requires-clause-room
 follow-requires-clause-room c = λ inverter otherwise is.
     let may : MayEnter (record { book = c.self.inside.book; at = c.self.inside.moment }) c.args.entry =
     subst (λ (ledger : LedgerRecord). MayEnter ledger c.args.entry) (sym c.self.view_is)
     (record { room = c.requires.room; next = c.requires.next; answer = c.requires.answer; now = c.requires.now }) in
-    rw c.deref_mut.ensures.value (room_left c.self.inside.book c.args.entry c.self.inside.moment c.self.inside.accounts.items c.self.inside.stopped c.self.invariant may inverter otherwise is)
+    rw c.deref_mut.ensures.value (room_left c.self.inside.book c.args.entry c.self.inside.moment c.self.inside.accounts.items c.self.inside.cap c.self.inside.stopped c.self.invariant may inverter otherwise is)
 
 pub invariant_of-self : goal.invariant_of-self
 invariant_of-self c =
@@ -31,5 +31,5 @@ invariant_of-self c =
       stays = λ is. c.follow.ensures.unnamed is ∙ c.deref_mut.ensures.value;
     } in
     let len : length new ≡ c.self.inside.accounts.len = omega (arith, c.follow.auto.accounts, c.deref_mut.ensures.len) in
-    let kept = next_ledger book c.args.entry c.self.inside.moment old new c.self.inside.stopped c.is_stopped_after-self-inside.result c.self.invariant may follow c.is_stopped_after-self-inside.ensures in
+    let kept = next_ledger book c.args.entry c.self.inside.moment old new c.self.inside.cap c.self.inside.stopped c.self.invariant may follow c.cap_after-self-inside.result c.is_stopped_after-self-inside.result c.cap_after-self-inside.ensures c.is_stopped_after-self-inside.ensures in
     rw (c.push.ensures, whole new old c.self.inside.accounts.len len) kept

@@ -12,5 +12,6 @@ invariant_of-result c =
     let first = first_ledger c.args.site c.args.start c.requires.openable c.requires.start in
     let units : c.deref.result.now ≡ c.args.site.units = c.deref.ensures.value ∙ ap (λ (site : SiteRecord). site.units) c.site.view_is in
     let accounts : c.in_ok-accounts.accounts.items ≡ map first_account c.args.site.units = c.in_ok-accounts.ensures ∙ ap (map first_account) units in
-    subst (λ (book : BookRecord). IsLedger book c.args.start c.in_ok-accounts.accounts.items false) (sym c.in_ok-book.ensures)
-    (subst (λ (all : List Account). IsLedger (record { site = c.args.site; start = c.args.start; entries = [] }) c.args.start all false) (sym accounts) first)
+    let cap : c.site.inside.cap ≡ c.args.site.cap = ap (λ (site : SiteRecord). site.cap) c.site.view_is in
+    rw cap (subst (λ (book : BookRecord). IsLedger book c.args.start c.in_ok-accounts.accounts.items c.args.site.cap false) (sym c.in_ok-book.ensures)
+    (subst (λ (all : List Account). IsLedger (record { site = c.args.site; start = c.args.start; entries = [] }) c.args.start all c.args.site.cap false) (sym accounts) first))

@@ -11,7 +11,7 @@ overflow_add-total c = omega (
   c.reserved-total.ensures.below,
   c.loop-inverter-test.true,
   c.inverters-inverter-end.ensures.count,
-  c.inverters-inverter-end.ensures.openable.few,
+  c.inverters-inverter-end.ensures.kept.openable.few,
 )
 
 pub loop-inverter-init : goal.loop-inverter-init

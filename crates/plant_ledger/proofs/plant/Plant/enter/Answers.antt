@@ -9,7 +9,7 @@ use Rattle.plant_book.specs.Answer.{reply_to}
 use Rattle.plant_book.specs.Answered.{IsBook, IsNext}
 use Rattle.plant_book.proofs.Growth.{with_entry}
 use Rattle.plant_ledger.specs.Ledger.{LedgerRecord}
-use Rattle.plant_ledger.proofs.Entering.{IsTaken, call_is, next, entered_is, reply_is, at_last, leaves}
+use Rattle.plant_ledger.proofs.Entering.{IsTaken, call_is, next, entered_is, reply_is, at_last, leaves, tells}
 use Rattle.plant_ledger.proofs.plant.Plant.enter.Goals as goal
 
 pub enter-requires-clause-next : goal.enter-requires-clause-next
@@ -65,3 +65,6 @@ returns-clause-kept c = (at_last c.args.self.now c.args.call c.at_moment-call.re
 
 pub returns-clause-reserved : goal.returns-clause-reserved
 returns-clause-reserved c = leaves c.args.self.now c.args.call c.at_moment-call.result c.answer-reply.result c.enter.new.self (taken c) (right c) (written c)
+
+pub returns-clause-told : goal.returns-clause-told
+returns-clause-told c = tells c.args.self.now c.args.call c.at_moment-call.result c.answer-reply.result c.enter.new.self (taken c) (right c) (written c)

@@ -1,7 +1,9 @@
-use Rattle.std.proofs.Common.{◌≡◌, subst, ap}
+use Rattle.std.proofs.Common.{◌≡◌, subst, ap, arith}
 use Rattle.std.specs.Prelude.{Result, Ok, Err, IfOk, IfErr, length}
 use Rattle.plant_book.specs.declared.call.Call.{Call}
 use Rattle.plant_book.specs.Book.{BookRecord}
+use Rattle.plant_book.specs.Reserved.{now_of}
+use Rattle.plant_book.proofs.Cap.{total_at-capped}
 use Rattle.plant_ledger.specs.declared.plant.BookFull.{BookFull}
 use Rattle.plant_ledger.specs.declared.plant.Outcome.{Outcome}
 use Rattle.plant_ledger.specs.Plant.{entered}
@@ -24,3 +26,6 @@ returns-clause-chain c =
     let old = c.self.inside.plant in
     let same = same_life old c.apply.new.self c.args.call c.apply.result c.apply.ensures.entered c.apply.ensures.full in
     subst (λ (b : BookRecord). GoesOn b c.apply.new.self) c.self.view_is (goes_on old c.apply.new.self c.apply.ensures.kept same.site same.start)
+
+pub returns-clause-capped : goal.returns-clause-capped
+returns-clause-capped c = total_at-capped c.apply.new.self c.apply.ensures.kept (now_of c.apply.new.self) (omega arith)

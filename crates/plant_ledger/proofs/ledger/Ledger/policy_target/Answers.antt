@@ -1,4 +1,4 @@
-use Rattle.plant_ledger.proofs.ledger.Ledger.target.Goals as goal
+use Rattle.plant_ledger.proofs.ledger.Ledger.policy_target.Goals as goal
 
 pub level-level-requires : goal.level-level-requires
 level-level-requires c = rw (c.cap.ensures.cap, c.as_slice.ensures.value, c.claims.ensures.claims) c.claims.ensures.feasible
