@@ -16,6 +16,8 @@ use crate::ledger::Ledger;
 use crate::opening::{OpenFault, refuse};
 use crate::ticket::{Ticket, ticket_with};
 use limiter_num::NoMemory;
+#[cfg(test)]
+use plant_book::Book;
 use plant_book::{Call, Entry, MOMENT_MAX, Reply, Site, Write, ceiling_plain};
 use std::alloc::Global;
 use std::marker::Model;
@@ -282,6 +284,15 @@ impl Plant {
     {
         let book = self.ledger.book();
         &book.site
+    }
+
+    /// The book, for the plain slow program.
+    #[cfg(test)]
+    pub(crate) fn book(&self) -> &Book
+        ensures book { result.now ≡ self.now }
+        ensures kept { IsBook self.now }
+    {
+        self.ledger.book()
     }
 
     /// The moment at which the book begins, in ms.

@@ -373,3 +373,4 @@ fn wishes_share_the_cap(rt: HostRuntime) -> Result<(), Fail> {
 }
 
 mod caps;
+mod plain;
