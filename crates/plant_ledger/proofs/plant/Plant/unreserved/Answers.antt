@@ -1,7 +1,12 @@
-use Rattle.std.proofs.Common.{arith}
+use Rattle.std.proofs.Common.{◌≡◌, ℕ, ap, subst, ◌∙◌}
+use Rattle.plant_book.specs.Part.{PartRecord, book_behind}
+use Rattle.plant_book.specs.Carry.{EachBook}
 use Rattle.plant_book.specs.Reserved as sums
+use Rattle.plant_ledger.proofs.Accounts.{at_last_is}
 use Rattle.plant_ledger.proofs.plant.Plant.unreserved.Goals as goal
 
 pub returns : goal.returns
-unfolding sums.unreserved_at
-returns c = omega (arith, c.saturating_sub.ensures, c.total.ensures, c.cap.ensures)
+returns c =
+    let ledger = c.self.inside.ledger in
+    subst (λ (book : PartRecord). EachBook book (λ whole. c.unreserved.result ≡ sums.unreserved whole)) c.self.view_is
+    (λ before is. c.unreserved.ensures.watts before is ∙ ap (λ (at : ℕ). sums.unreserved_at (book_behind before ledger.book) at) (at_last_is ledger c.self.invariant before is))

@@ -1,0 +1,4 @@
+use Rattle.plant_ledger.proofs.ledger.Ledger.fall_share.Goals as goal
+
+pub level-level-requires : goal.level-level-requires
+level-level-requires c = rw c.as_slice.ensures.value (c.fall_claims.ensures.feasible c.cap.result c.cap.ensures.cap)

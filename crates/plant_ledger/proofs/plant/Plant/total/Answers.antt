@@ -1,0 +1,12 @@
+use Rattle.std.proofs.Common.{◌≡◌, ℕ, ap, subst, ◌∙◌}
+use Rattle.plant_book.specs.Part.{PartRecord, book_behind}
+use Rattle.plant_book.specs.Carry.{EachBook}
+use Rattle.plant_book.specs.Reserved as sums
+use Rattle.plant_ledger.proofs.Accounts.{at_last_is}
+use Rattle.plant_ledger.proofs.plant.Plant.total.Goals as goal
+
+pub returns : goal.returns
+returns c =
+    let ledger = c.self.inside.ledger in
+    subst (λ (book : PartRecord). EachBook book (λ whole. c.total.result ≡ sums.total whole)) c.self.view_is
+    (λ before is. c.total.ensures before is ∙ ap (λ (at : ℕ). sums.total_at (book_behind before ledger.book) at) (at_last_is ledger c.self.invariant before is))
