@@ -115,9 +115,9 @@ impl Plant {
         ensures told { IfOk result (λ outcome.
             TellsCap self.old (entry_of self.old call outcome.reply) self.new) }
 
-        // The book stays one of right replies, and what is reserved in all stays under the ceiling: the site's cap
-        // through the silence, and within reach of a lowering what was reserved right after it. Past that it is
-        // back under the cap.
+        // The book stays one of right replies, and what is reserved in all stays under the ceiling: the
+        // site's cap through the silence, and within reach of a lowering what was reserved right after it.
+        // Past that it is back under the cap.
         ensures kept { IsBook self.new }
         ensures capped { IsUnderCeiling self.new }
         ensures back { IsBackUnderCap self.new }
@@ -236,7 +236,7 @@ impl Plant {
         cap_plain(&self.book)
     }
 
-    /// What all limits together stay under at the last moment, in mW, also right behind a lowering of the cap.
+    /// What all limits together stay under at the last moment, in mW, also right behind a lowering.
     pub fn ceiling(&self) -> u64
         ensures { result ≡ ceiling self.now }
     {
