@@ -14,7 +14,7 @@ use Rattle.inverter_worker.specs.declared.output.Asked.{Asked}
 use Rattle.inverter_worker.specs.declared.output.Output.{Output}
 use Rattle.inverter_worker.specs.declared.state.State.{State}
 use Rattle.inverter_worker.specs.declared.state.Step.{Step}
-use Rattle.inverter_worker.specs.declared.state.Step.TheVariants.{Ready, Aiming, Dialing, LinkTiming, Linking, Timing, Asking, Window, ReleaseTiming, Sending, WaitWrite, ReadTiming, ReadAsking, ReadWindow, SendingRead, WaitRead, SawTiming, SawAsking, Closing, UnfitClosing, Resting}
+use Rattle.inverter_worker.specs.declared.state.Step.TheVariants.{Ready, Aiming, Dialing, LinkTiming, Linking, Timing, Asking, Window, ReleaseTiming, Sending, WaitWrite, ReadTiming, ReadAsking, ReadWindow, SendingRead, WaitRead, SawTiming, SawAsking, Closing, UnfitClosing, Resting, Over}
 use Rattle.inverter_worker.specs.States.{due, in_window}
 use Rattle.inverter_worker.specs.Table.{row, judgement_row}
 use Rattle.inverter_worker.specs.Runs.{RunStep, LeadsTo}

@@ -1,5 +1,5 @@
 -- The requests of a run: which the ledger numbered, and which were sent or given back.
-use Rattle.std.specs.Prelude.{List, [], ◌∷◌}
+use Rattle.std.specs.Prelude.{ℕ, List, [], ◌∷◌}
 use Rattle.std.specs.List.{flat_map}
 use Rattle.plant_book.specs.declared.call.Reply.TheVariants as reply
 use Rattle.inverter_worker.specs.declared.input.Input.{Input}
