@@ -3,3 +3,4 @@ pub mod Table
 pub mod Answers
 pub mod Runs
 pub mod Turns
+pub mod Requests

@@ -1,5 +1,5 @@
 //! Laws of the table and of its runs.
-ghost use Rattle.std.specs.Prelude.{◌≡◌, ◌<◌, Some, List, [], ◌∷◌, ◌++◌};
+ghost use Rattle.std.specs.Prelude.{◌≡◌, ℕ, ◌<◌, Some, List, [], ◌∷◌, ◌++◌};
 ghost use Rattle.std.specs.List.{AllByRecursion};
 ghost use Rattle.inverter_worker.specs.declared.job.Job.{Job};
 ghost use Rattle.inverter_worker.specs.declared.input.Input.{Input};
@@ -7,7 +7,8 @@ ghost use Rattle.inverter_worker.specs.declared.output.Output.{Output};
 ghost use Rattle.inverter_worker.specs.declared.state.State.{State};
 ghost use Rattle.inverter_worker.specs.Table.{table, HasRow};
 ghost use Rattle.inverter_worker.specs.Answers.{IsAnswerTo};
-ghost use Rattle.inverter_worker.specs.Runs.{RunStep, LeadsTo, calls, log, IsInTime};
+ghost use Rattle.inverter_worker.specs.Runs.{RunStep, LeadsTo, IsRun, calls, log, IsInTime};
+ghost use Rattle.inverter_worker.specs.Requests.{requests_numbered, requests_done, request_next};
 ghost use Rattle.inverter_worker.specs.Turns.{IsWithinTurn, IsShort};
 
 /// The table has a row for each input that may come of its outputs: a worker never stands still.
@@ -35,4 +36,13 @@ pub fn runs_go_on()
 pub fn turns_are_short()
     ensures { (job : Job) (from last : State) (first : RunStep) (later : List RunStep)
         → LeadsTo job from (first ∷ later) last → AllByRecursion IsWithinTurn later → IsShort (first ∷ later) }
+{}
+
+/// Each request that the ledger numbers is sent or given back, once, in their order, and no other is: there is at
+/// most one that is still to be sent, and none before a worker's first turn.
+pub fn requests_are_sent_or_given_back()
+    ensures kept { (job : Job) (from last : State) (run : List RunStep) → LeadsTo job from run last
+        → request_next from.step ++ requests_numbered run ≡ requests_done run ++ request_next last.step }
+    ensures first { (job : Job) (turns : ℕ) (last : State) (run : List RunStep) → IsRun job turns run last
+        → requests_numbered run ≡ requests_done run ++ request_next last.step }
 {}

@@ -19,7 +19,7 @@ mod writing;
 
 pub use input::Input;
 pub use job::Job;
-pub use laws::{answers_have_rows, runs_go_on, turns_are_short};
+pub use laws::{answers_have_rows, requests_are_sent_or_given_back, runs_go_on, turns_are_short};
 pub use output::{Asked, Output, Sent};
 pub use state::{End, SKIPPED_MAX, State, Step};
 pub use table::worker_step;
