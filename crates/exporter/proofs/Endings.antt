@@ -107,15 +107,15 @@ one_word f (x ∷ []) word text test one is tests = (
 
 -- ---- a script is replayed
 
-if_some_all : {A : Type 0} (found : Option A) (P : A → Type 0) → ((x : A) → P x) → IfSome found P
+pub if_some_all : {A : Type 0} (found : Option A) (P : A → Type 0) → ((x : A) → P x) → IfSome found P
 if_some_all None P all = tt
 if_some_all (Some x) P all = all x
 
-if_some_more : {A : Type 0} (found : Option A) (P Q : A → Type 0) → ((x : A) → P x → Q x) → IfSome found P → IfSome found Q
+pub if_some_more : {A : Type 0} (found : Option A) (P Q : A → Type 0) → ((x : A) → P x → Q x) → IfSome found P → IfSome found Q
 if_some_more None P Q more some = tt
 if_some_more (Some x) P Q more some = more x some
 
-told_front : (old new : Option (List ℕ)) (read : List ℕ) → Consumes old new read → IfSome old (λ bytes. length read ≤ length bytes)
+pub told_front : (old new : Option (List ℕ)) (read : List ℕ) → Consumes old new read → IfSome old (λ bytes. length read ≤ length bytes)
 told_front None new read taken = tt
 told_front (Some told) None read taken = absurd taken
 told_front (Some told) (Some left) read taken = omega (arith, ap length taken, length-append read left)
@@ -134,3 +134,5 @@ complete (ends.TooLong limit) read input output row =
     if_some_more input.old (λ bytes. length read ≤ length bytes) _ (λ bytes front within script is no_fault none. absurd (omega (arith, front, within, row.read.beyond)))
     (told_front input.old input.new read row.read.bytes)
 complete ends.BadWords read input output row = absurd row
+complete (ends.BadSite fault) read input output row = absurd row
+complete (ends.Refused fault) read input output row = absurd row

@@ -8,3 +8,7 @@ pub mod Written
 pub mod Plays
 pub mod Entering
 pub mod Endings
+pub mod Checking
+pub mod Tasks
+pub mod Timers
+pub mod OneTask

@@ -1,5 +1,5 @@
 -- How the program ends: the words that it takes, how each end is shown, and what each end of a command says.
-use Rattle.std.specs.Prelude.{◌≡◌, ℕ, List, [], ◌∷◌, ◌++◌, codes}
+use Rattle.std.specs.Prelude.{◌≡◌, ℕ, List, [], ◌∷◌, ◌++◌, Option, Some, None, codes}
 use Rattle.std.specs.Fmt.{decimal}
 use Rattle.exporter.specs.declared.ended.LineKind.{LineKind}
 use Rattle.exporter.specs.declared.ended.LineKind.TheVariants as kinds
@@ -19,10 +19,12 @@ abbrev pub status_of : Ended → ℕ
 status_of ends.Done = 0
 status_of ends.BadWords = 2
 status_of (ends.BadLine line kind) = 3
+status_of (ends.BadSite fault) = 4
 status_of ends.ReadFault = 6
 status_of ends.WriteFault = 7
 status_of ends.NoMemory = 8
 status_of (ends.TooLong limit) = 9
+status_of (ends.Refused fault) = 10
 
 abbrev pub kind_text : LineKind → List ℕ
 kind_text kinds.Form = codes "form"
@@ -30,15 +32,17 @@ kind_text kinds.Inverter = codes "inverter"
 kind_text kinds.Time = codes "time"
 kind_text kinds.Value = codes "value"
 
--- the line on standard error
-abbrev pub end_text : Ended → List ℕ
-end_text ends.Done = codes "done"
-end_text ends.BadWords = codes "bad words"
-end_text (ends.BadLine line kind) = codes "line " ++ decimal line ++ codes ": " ++ kind_text kind
-end_text ends.ReadFault = codes "read fault"
-end_text ends.WriteFault = codes "write fault"
-end_text ends.NoMemory = codes "no memory"
-end_text (ends.TooLong limit) = codes "too long: " ++ decimal limit
+-- the line on standard error; those of a bad site and of a refusal aren't said here
+abbrev pub end_text : Ended → Option (List ℕ)
+end_text ends.Done = Some (codes "done")
+end_text ends.BadWords = Some (codes "bad words")
+end_text (ends.BadLine line kind) = Some (codes "line " ++ decimal line ++ codes ": " ++ kind_text kind)
+end_text (ends.BadSite fault) = None
+end_text ends.ReadFault = Some (codes "read fault")
+end_text ends.WriteFault = Some (codes "write fault")
+end_text ends.NoMemory = Some (codes "no memory")
+end_text (ends.TooLong limit) = Some (codes "too long: " ++ decimal limit)
+end_text (ends.Refused fault) = None
 
 -- what an end says: why it came, what was read of the input, and what the output gained
 pub record End (Cause Read Gained : Type 0) : Type 0 where
@@ -49,15 +53,16 @@ pub record End (Cause Read Gained : Type 0) : Type 0 where
 -- The ends of `replay`, each with what it says of the bytes that were read. It has no others.
 abbrev pub IsReplayEnd : Ended → List ℕ → Change → Change → Type 0
 IsReplayEnd ends.Done read input output =
-    End (Unit {0}) (ReadsWhole read input) (GainsText (IsReplay read) output)
+    End (Unit {0}) (ReadsWhole input_limit read input) (GainsText (IsReplay read) output)
 IsReplayEnd (ends.BadLine line kind) read input output =
-    End ((kind ≡ kinds.Form) × LeavesFormAt read line) (ReadsWhole read input) (GainsNothing output)
+    End ((kind ≡ kinds.Form) × LeavesFormAt read line)
+    (ReadsWhole input_limit read input) (GainsNothing output)
 IsReplayEnd ends.ReadFault read input output =
-    End (Fails input) (ReadsFront read input) (GainsNothing output)
+    End (Fails input) (ReadsFront input_limit read input) (GainsNothing output)
 IsReplayEnd ends.WriteFault read input output =
-    End (Fails output) (ReadsWhole read input) (GainsFront (IsReplay read) output)
+    End (Fails output) (ReadsWhole input_limit read input) (GainsFront (IsReplay read) output)
 IsReplayEnd ends.NoMemory read input output =
-    End (Works input) (ReadsFront read input) (GainsNothing output)
+    End (Works input) (ReadsFront input_limit read input) (GainsNothing output)
 IsReplayEnd (ends.TooLong limit) read input output =
-    End (limit ≡ input_limit) (ReadsBeyond read input) (GainsNothing output)
+    End (limit ≡ input_limit) (ReadsBeyond input_limit read input) (GainsNothing output)
 IsReplayEnd _ read input output = ⊥

@@ -8,3 +8,11 @@ pub mod Printing
 pub mod Streams
 pub mod Ends
 pub mod Playing
+pub mod Site
+pub mod Check
+pub mod Words
+pub mod Dialing
+pub mod Finding
+pub mod Commission
+pub mod Serve
+pub mod Live

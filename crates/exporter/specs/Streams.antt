@@ -5,7 +5,7 @@ use Rattle.world_traits.specs.Causes.{Rose}
 use Rattle.exporter.specs.declared.input.InputFault.{InputFault}
 use Rattle.exporter.specs.declared.input.InputFault.TheVariants as faults
 
--- how many bytes an input has at most
+-- how many bytes a script has at most
 abbrev pub input_limit : ℕ
 input_limit = 134217728
 
@@ -33,30 +33,30 @@ Fails stream = Rose stream.faults_old stream.faults_new
 abbrev pub Works : Change → Type 0
 Works stream = stream.faults_new ≡ stream.faults_old
 
--- these bytes were read, and they are no more than an input may have
-pub record ReadsFront (read : List ℕ) (input : Change) : Type 0 where
+-- these bytes were read, and they are no more than the limit
+pub record ReadsFront (limit : ℕ) (read : List ℕ) (input : Change) : Type 0 where
   pub bytes : Consumes input.old input.new read
-  pub within : length read ≤ input_limit
+  pub within : length read ≤ limit
 
--- these bytes were read, they are all of the input, they are no more than it may have, and no read failed
-pub record ReadsWhole (read : List ℕ) (input : Change) : Type 0 where
+-- these bytes were read, they are all of the input, they are no more than the limit, and no read failed
+pub record ReadsWhole (limit : ℕ) (read : List ℕ) (input : Change) : Type 0 where
   pub bytes : Consumes input.old input.new read
-  pub within : length read ≤ input_limit
+  pub within : length read ≤ limit
   pub at_end : IsAtEnd input.new
   pub works : Works input
 
--- these bytes were read, they are more than an input may have, and no read failed
-pub record ReadsBeyond (read : List ℕ) (input : Change) : Type 0 where
+-- these bytes were read, they are more than the limit, and no read failed
+pub record ReadsBeyond (limit : ℕ) (read : List ℕ) (input : Change) : Type 0 where
   pub bytes : Consumes input.old input.new read
-  pub beyond : input_limit < length read
+  pub beyond : limit < length read
   pub works : Works input
 
 -- why a source was not read whole, and what was read of it: it failed, it gave a byte beyond the limit, or
 -- memory ran out
-abbrev pub StopsReading : InputFault → List ℕ → Change → Type 0
-StopsReading faults.Failed read input = Fails input × ReadsFront read input
-StopsReading faults.TooLong read input = ReadsBeyond read input
-StopsReading faults.NoMemory read input = Works input × ReadsFront read input
+abbrev pub StopsReading : InputFault → ℕ → List ℕ → Change → Type 0
+StopsReading faults.Failed limit read input = Fails input × ReadsFront limit read input
+StopsReading faults.TooLong limit read input = ReadsBeyond limit read input
+StopsReading faults.NoMemory limit read input = Works input × ReadsFront limit read input
 
 -- the known bytes grow by the first bytes of a text
 abbrev pub AppendsFront : Option (List ℕ) → Option (List ℕ) → List ℕ → Type 0

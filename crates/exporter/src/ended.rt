@@ -1,6 +1,9 @@
 ghost use Rattle.std.specs.Prelude.{◌≡◌, Some};
 ghost use Rattle.exporter.specs.Ends.{status_of, kind_text, end_text};
 
+use crate::fault_text::{write_live_fault, write_site_fault};
+use crate::live_fault::LiveFault;
+use site_config::SiteFault;
 use std::fmt;
 use std::fmt::{Display, Formatter};
 
@@ -31,6 +34,8 @@ pub enum Ended {
         /// How it is at fault.
         kind: LineKind,
     },
+    /// The site file is at fault, and this is its first fault.
+    BadSite(SiteFault),
     /// The input failed.
     ReadFault,
     /// The output failed.
@@ -42,6 +47,8 @@ pub enum Ended {
         /// How many bytes it may have.
         limit: u32,
     },
+    /// A command over links was refused.
+    Refused(LiveFault),
 }
 
 /// The status with which the program ends.
@@ -52,10 +59,12 @@ pub fn status(ended: &Ended) -> u8
         Ended::Done => 0,
         Ended::BadWords => 2,
         Ended::BadLine { .. } => 3,
+        Ended::BadSite(_) => 4,
         Ended::ReadFault => 6,
         Ended::WriteFault => 7,
         Ended::NoMemory => 8,
         Ended::TooLong { .. } => 9,
+        Ended::Refused(_) => 10,
     }
 }
 
@@ -75,17 +84,25 @@ impl Display for LineKind {
 
 /// The line on standard error.
 impl Display for Ended {
-    ghost output = { λ ended. Some (end_text ended) };
+    ghost output = { end_text };
 
     fn fmt<W: fmt::Write>(&self, f: &mut Formatter<W>) -> fmt::Result {
         match self {
             Ended::Done => f.write_str("done"),
             Ended::BadWords => f.write_str("bad words"),
             Ended::BadLine { line, kind } => write!(f, "line {line}: {kind}"),
+            Ended::BadSite(fault) => {
+                f.write_str("bad site: ")?;
+                write_site_fault(f, *fault)
+            }
             Ended::ReadFault => f.write_str("read fault"),
             Ended::WriteFault => f.write_str("write fault"),
             Ended::NoMemory => f.write_str("no memory"),
             Ended::TooLong { limit } => write!(f, "too long: {limit}"),
+            Ended::Refused(fault) => {
+                f.write_str("refused: ")?;
+                write_live_fault(f, *fault)
+            }
         }
     }
 }

@@ -4,9 +4,6 @@ ghost use Rattle.exporter.specs.Streams.{ReadsWhole, StopsReading, change};
 use std::alloc::Global;
 use world_traits::Source;
 
-/// How many bytes an input has at most.
-pub const INPUT_MAX: u32 = 134_217_728;
-
 /// How many bytes are read at a time, at most.
 const CHUNK: usize = 4096;
 
@@ -21,24 +18,28 @@ pub enum InputFault {
     NoMemory,
 }
 
-/// Reads a source to its end.
-pub fn read_whole<S: Source>(alloc: Global, source: &mut S) -> Result<Vec<u8>, InputFault>
+/// Reads a source of at most so many bytes to its end.
+pub fn read_whole<S: Source>(
+    alloc: Global,
+    source: &mut S,
+    limit: u32,
+) -> Result<Vec<u8>, InputFault>
     ensures later { S.faults source.old ≤ S.faults source.new }
     ensures whole { IfOk result (λ bytes.
-        ReadsWhole bytes.items (change S.left S.faults source.old source.new)) }
+        ReadsWhole limit bytes.items (change S.left S.faults source.old source.new)) }
     ensures fault { IfErr result (λ fault.
-        (read : List ℕ) × StopsReading fault read (change S.left S.faults source.old source.new)) }
+        (read : List ℕ) × StopsReading fault limit read (change S.left S.faults source.old source.new)) }
 {
     let mut bytes = Vec::new(alloc);
     let mut chunk = [0; CHUNK];
-    for _ in 0..=INPUT_MAX {
+    for _ in 0..=limit {
         let Ok(count) = source.read(&mut chunk) else {
             return Err(InputFault::Failed);
         };
         if count == 0 {
             return Ok(bytes);
         }
-        if bytes.len() + count > INPUT_MAX as usize {
+        if bytes.len() + count > limit as usize {
             return Err(InputFault::TooLong);
         }
         if bytes.extend_from_slice(&chunk[..count]).is_err() {

@@ -4,39 +4,90 @@
 //! the words of the command line, standard input and standard output.
 #![tactic(auto)]
 
+mod adapters;
+mod check;
 mod command_line;
+mod commission;
 mod ended;
+mod fault_text;
 mod fields;
+mod finding;
 mod input;
 mod judging;
 mod laws;
 mod line;
+mod live;
+mod live_fault;
 mod number;
 mod output;
 mod plain;
 mod playing;
 mod real;
 mod script;
+mod serve;
+mod site;
 mod text;
+mod words;
 
+use crate::adapters::{BootClock, Calling, Listening, Opened, Opener, TcpDialer};
 use crate::command_line::words;
 use crate::ended::{Ended, status};
+use crate::live::live;
 use crate::plain::plain;
 use crate::real::{Input, Output};
 use std::process::ExitCode;
+use world_traits::Clock;
 
-fn run(rt: &HostRuntime) -> Ended {
+/// How many dialers there are: one for each inverter that a site may have.
+const DIALERS: usize = 64;
+
+/// The site file, in the current folder.
+const SITE: &str = "site.toml";
+
+/// Does what the words ask for over links that come about in this way.
+fn run_live<C: Opener<Runtime = HostRuntime> + Send, K: Clock + Sync>(
+    rt: &HostRuntime,
+    words: &Vec<String>,
+    clock: &K,
+) -> Ended {
+    let Ok(mut dialers) = TcpDialer::<C>::many(rt.alloc(), *rt, DIALERS) else {
+        return Ended::NoMemory;
+    };
+    let mut site = Input::new(Opened::at(rt, SITE));
+    let mut console = Input::new(rt.stdin());
+    let mut output = Output::new(rt.stdout());
+    live(
+        rt.alloc(),
+        words,
+        &mut site,
+        &mut console,
+        &mut output,
+        &mut dialers,
+        clock,
+    )
+}
+
+/// Does what the words ask for over the standard input and output.
+fn run_plain(rt: &HostRuntime, words: &Vec<String>) -> Ended {
+    let mut input = Input::new(rt.stdin());
+    let mut output = Output::new(rt.stdout());
+    plain(rt.alloc(), words, &mut input, &mut output)
+}
+
+fn run<K: Clock + Sync>(rt: &HostRuntime, clock: &K) -> Ended {
     let words = match words(rt) {
         Ok(words) => words,
         Err(ended) => return ended,
     };
-    let mut input = Input::new(rt.stdin());
-    let mut output = Output::new(rt.stdout());
-    plain(rt.alloc(), &words, &mut input, &mut output)
+    match words.first().map(|word| word.as_str()) {
+        Some("run" | "commission") => run_live::<Calling<HostRuntime>, K>(rt, &words, clock),
+        Some("serve") => run_live::<Listening<HostRuntime>, K>(rt, &words, clock),
+        _ => run_plain(rt, &words),
+    }
 }
 
 fn main(rt: HostRuntime) -> ExitCode {
-    let ended = run(&rt);
+    let ended = run(&rt, &BootClock::new(rt));
     let status = status(&ended);
     if status != 0 {
         let _ = eprintln!(rt; "{ended}");

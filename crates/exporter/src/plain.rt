@@ -1,4 +1,4 @@
-ghost use Rattle.std.specs.Prelude.{◌≡◌, ◌↔◌, ◌⊎◌, ◌<◌, ◌≤◌, ℕ, List, map, length};
+ghost use Rattle.std.specs.Prelude.{◌≡◌, ◌↔◌, ◌⊎◌, ◌<◌, ◌≤◌, ◌∷◌, ℕ, List, [], map, length};
 ghost use Rattle.std.specs.Prelude.{IsTrue, IfSome, IfOk, IfErr};
 ghost use Rattle.std.specs.String.{string_bytes};
 ghost use Rattle.std.specs.Io.KnownBytes.{IsAtEnd};
@@ -9,9 +9,14 @@ ghost use Rattle.exporter.specs.Holding.{Explains};
 ghost use Rattle.exporter.specs.Replay.{IsReplay};
 ghost use Rattle.exporter.specs.Streams.{change, input_limit, GainsFront, GainsText};
 ghost use Rattle.exporter.specs.Ends.{AreReplay, IsReplayEnd};
+ghost use Rattle.exporter.specs.Site.{site_limit};
+ghost use Rattle.exporter.specs.Check.{AreCheck, IsCheck, IsCheckEnd};
+ghost use Rattle.site_config.specs.declared.fault.SiteFault.{SiteFault};
+ghost use Rattle.site_config.specs.SiteFile.{SiteFileRecord, IsSiteFile, IsRefused};
 
+use crate::check::check;
 use crate::ended::{Ended, LineKind};
-use crate::input::{INPUT_MAX, InputFault, read_whole};
+use crate::input::{InputFault, read_whole};
 use crate::output::write_whole;
 use crate::playing::play;
 use crate::script::{ScriptFault, read_script};
@@ -19,12 +24,15 @@ use crate::text::print_book;
 use std::alloc::Global;
 use world_traits::{Sink, Source};
 
-/// Whether the words ask for a replay.
-fn is_replay(words: &Vec<String>) -> bool
-    ensures { IsTrue result ↔ AreReplay (map string_bytes words.now.items) }
+/// How many bytes a script has at most.
+const SCRIPT_BYTES_MAX: u32 = 134_217_728;
+
+/// Whether the words are this one alone.
+fn is_word(words: &Vec<String>, name: &str) -> bool
+    ensures { IsTrue result ↔ (map string_bytes words.now.items ≡ name.now ∷ []) }
 {
     match words.as_slice() {
-        [word] => word.as_str() == "replay",
+        [word] => word.as_str() == name,
         _ => false,
     }
 }
@@ -48,10 +56,12 @@ fn replay<S: Source, O: Sink>(alloc: Global, input: &mut S, out: &mut O) -> Ende
     ensures read_faults_stay { S.faults input.old ≤ S.faults input.new }
     ensures write_faults_stay { O.faults out.old ≤ O.faults out.new }
 {
-    let bytes = match read_whole(alloc, input) {
+    let bytes = match read_whole(alloc, input, SCRIPT_BYTES_MAX) {
         Ok(bytes) => bytes,
         Err(InputFault::Failed) => return Ended::ReadFault,
-        Err(InputFault::TooLong) => return Ended::TooLong { limit: INPUT_MAX },
+        Err(InputFault::TooLong) => return Ended::TooLong {
+            limit: SCRIPT_BYTES_MAX,
+        },
         Err(InputFault::NoMemory) => return Ended::NoMemory,
     };
     let text = match replay_bytes(alloc, &bytes) {
@@ -69,7 +79,8 @@ fn replay<S: Source, O: Sink>(alloc: Global, input: &mut S, out: &mut O) -> Ende
 }
 
 /// Does what the words of the command line ask for, with an input and an output. `replay` reads a script to
-/// its end, keeps its book, and writes the text of the book.
+/// its end, keeps its book, and writes the text of the book. `check` reads a site file to its end, and writes
+/// its summary.
 pub fn plain<S: Source, O: Sink>(
     alloc: Global,
     words: &Vec<String>,
@@ -77,11 +88,17 @@ pub fn plain<S: Source, O: Sink>(
     out: &mut O,
 ) -> Ended
     // The words are at fault exactly where they ask for nothing; then nothing is read.
-    ensures bad_words { result ≡ Ended.BadWords ↔ (AreReplay (map string_bytes words.now.items) → ⊥) }
+    ensures bad_words { result ≡ Ended.BadWords
+        ↔ ((AreReplay (map string_bytes words.now.items) → ⊥)
+        × (AreCheck (map string_bytes words.now.items) → ⊥)) }
     ensures unread { result ≡ Ended.BadWords → input.new ≡ input.old }
 
-    // What each end of `replay` says, for the bytes that were read: its cause, what was read, what was written.
+    // What each end of a command says, for the bytes that were read: its cause, what was read, what was
+    // written.
     ensures ends { AreReplay (map string_bytes words.now.items) → (read : List ℕ) × IsReplayEnd result read
+        (change S.left S.faults input.old input.new) (change O.taken O.faults out.old out.new) }
+    ensures check_ends { AreCheck (map string_bytes words.now.items)
+        → (read : List ℕ) × IsCheckEnd result read
         (change S.left S.faults input.old input.new) (change O.taken O.faults out.old out.new) }
     ensures read_faults_stay { S.faults input.old ≤ S.faults input.new }
     ensures write_faults_stay { O.faults out.old ≤ O.faults out.new }
@@ -89,8 +106,13 @@ pub fn plain<S: Source, O: Sink>(
     // The causes of the ends, by the bytes that the input tells.
     ensures bad_line { (line : ℕ) (kind : LineKind) → result ≡ Ended.BadLine line kind
         → (kind ≡ LineKind.Form) × IfSome (S.left input.old) (λ bytes. LeavesFormAt bytes line) }
+    ensures bad_site { (fault : SiteFault) → result ≡ Ended.BadSite fault
+        → IfSome (S.left input.old) (λ bytes. IsRefused bytes fault) }
     ensures too_long { (limit : ℕ) → result ≡ Ended.TooLong limit
-        → (limit ≡ input_limit) × IfSome (S.left input.old) (λ bytes. limit < length bytes) }
+        → IfSome (S.left input.old) (λ bytes. limit < length bytes) }
+    ensures limits { (limit : ℕ) → result ≡ Ended.TooLong limit
+        → (AreReplay (map string_bytes words.now.items) × (limit ≡ input_limit))
+        ⊎ (AreCheck (map string_bytes words.now.items) × (limit ≡ site_limit)) }
     ensures within { (result ≡ Ended.Done)
         ⊎ (result ≡ Ended.WriteFault)
         ⊎ ((line : ℕ) × (kind : LineKind) × (result ≡ Ended.BadLine line kind))
@@ -98,14 +120,19 @@ pub fn plain<S: Source, O: Sink>(
     ensures read_fault { result ≡ Ended.ReadFault → Rose (S.faults input.old) (S.faults input.new) }
     ensures write_fault { result ≡ Ended.WriteFault → Rose (O.faults out.old) (O.faults out.new) }
 
-    // At Done the input was read to its end, and the output gained the text of its replay; at WriteFault it
+    // At Done the input was read to its end, and the output gained the text of the command; at WriteFault it
     // gained a front of that text, and at every other end nothing.
     ensures read { result ≡ Ended.Done → IsAtEnd (S.left input.new) }
-    ensures gained { IfSome (S.left input.old) (λ bytes.
+    ensures gained { AreReplay (map string_bytes words.now.items) → IfSome (S.left input.old) (λ bytes.
         (result ≡ Ended.Done
         → GainsText (IsReplay bytes) (change O.taken O.faults out.old out.new))
         × (result ≡ Ended.WriteFault
         → GainsFront (IsReplay bytes) (change O.taken O.faults out.old out.new))) }
+    ensures check_gained { AreCheck (map string_bytes words.now.items) → IfSome (S.left input.old) (λ bytes.
+        (result ≡ Ended.Done
+        → GainsText (IsCheck bytes) (change O.taken O.faults out.old out.new))
+        × (result ≡ Ended.WriteFault
+        → GainsFront (IsCheck bytes) (change O.taken O.faults out.old out.new))) }
     ensures nothing { (result ≡ Ended.Done → ⊥) → (result ≡ Ended.WriteFault → ⊥) → out.new ≡ out.old }
 
     // A script is replayed, and an input beyond its limit is too long, unless memory runs out, or the input
@@ -120,9 +147,29 @@ pub fn plain<S: Source, O: Sink>(
         → IfSome (S.left input.old) (λ bytes. input_limit < length bytes
         → (Rose (S.faults input.old) (S.faults input.new) → ⊥)
         → (result ≡ Ended.TooLong input_limit) ⊎ (result ≡ Ended.NoMemory)) }
+
+    // So it is with a site file that is checked; and one with a fault is refused by its first.
+    ensures check_complete { AreCheck (map string_bytes words.now.items)
+        → IfSome (S.left input.old) (λ bytes. length bytes ≤ site_limit
+        → (file : SiteFileRecord) → IsSiteFile bytes file
+        → (Rose (S.faults input.old) (S.faults input.new) → ⊥)
+        → (Rose (O.faults out.old) (O.faults out.new) → ⊥)
+        → (result ≡ Ended.Done) ⊎ (result ≡ Ended.NoMemory)) }
+    ensures check_refused { AreCheck (map string_bytes words.now.items)
+        → IfSome (S.left input.old) (λ bytes. length bytes ≤ site_limit
+        → (fault : SiteFault) → IsRefused bytes fault
+        → (Rose (S.faults input.old) (S.faults input.new) → ⊥)
+        → (result ≡ Ended.BadSite fault) ⊎ (result ≡ Ended.NoMemory)) }
+    ensures check_beyond { AreCheck (map string_bytes words.now.items)
+        → IfSome (S.left input.old) (λ bytes. site_limit < length bytes
+        → (Rose (S.faults input.old) (S.faults input.new) → ⊥)
+        → (result ≡ Ended.TooLong site_limit) ⊎ (result ≡ Ended.NoMemory)) }
 {
-    if !is_replay(words) {
-        return Ended::BadWords;
+    if is_word(words, "replay") {
+        return replay(alloc, input, out);
     }
-    replay(alloc, input, out)
+    if is_word(words, "check") {
+        return check(alloc, input, out);
+    }
+    Ended::BadWords
 }

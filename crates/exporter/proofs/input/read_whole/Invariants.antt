@@ -6,6 +6,6 @@ use Rattle.exporter.proofs.input.read_whole.Given as goal
 abbrev pub invariant-loop : goal.invariant-loop
 invariant-loop g l = record {
   works : Works (change g.S.Source.left g.S.Source.faults l.fn.source l.source);
-  front : ReadsFront l.bytes.items (change g.S.Source.left g.S.Source.faults l.fn.source l.source);
+  front : ReadsFront l.fn.limit l.bytes.items (change g.S.Source.left g.S.Source.faults l.fn.source l.source);
   turns : l.counter ≤ length l.bytes.items;
 }
