@@ -1,5 +1,5 @@
 -- What is reserved in all never passes the site's cap: from the last moment of a book on, and whatever calls it has.
-use Rattle.std.proofs.Common.{◌≡◌, ℕ, ◌+◌, ◌≤◌, max, true, not, ◌⊎◌, eqb, leb, List, [], ◌∷◌, ◌++◌, map, refl, sym, ap, subst, ◌∙◌, append_assoc, arith, inl, inr}
+use Rattle.std.proofs.Common.{◌≡◌, ℕ, ◌+◌, ◌≤◌, max, true, not, ◌⊎◌, eqb, leb, List, [], ◌∷◌, ◌++◌, map, refl, sym, ap, subst, ◌∙◌, arith, inl, inr}
 use Rattle.std.specs.Prelude.{filter, fold}
 use Rattle.std.proofs.lemmas.Bool.{cases_Bool, and_parts, and_from, leb-true, le-leb, ne_eqb, and_left}
 use Rattle.std.proofs.lemmas.List.{append-nil}
@@ -17,7 +17,7 @@ use Rattle.plant_book.specs.Writes.{grant_of, granted, ends, standing, is_curren
 use Rattle.plant_book.specs.Reserved.{covering, reserved_at, total_at, unreserved_at, now_of}
 use Rattle.plant_book.specs.Caps.{cap_of}
 use Rattle.plant_book.specs.Answer.{raise_at}
-use Rattle.plant_book.specs.Answered.{EachInTurn, IsAnswer, IsNext, IsOpenable, IsBook, with_entries}
+use Rattle.plant_book.specs.Answered.{IsAnswer, IsBook, with_entries}
 use Rattle.plant_book.proofs.Steps.{latest-push}
 use Rattle.plant_book.proofs.Maxima.{fold_max_filter, fold_max_filtered, fold_max-push, sum_below_le, sum_below_raise}
 use Rattle.plant_book.proofs.Standing.{standing-push}

@@ -1,17 +1,17 @@
 -- The cap in force: what one more entry makes of it, and its bounds.
-use Rattle.std.proofs.Common.{◌≡◌, ℕ, ◌≤◌, Bool, true, false, cond, ltb, ◌||◌, List, [], ◌∷◌, ◌++◌, Some, refl, sym, ap, subst, ◌∙◌, arith, inl, inr}
+use Rattle.std.proofs.Common.{◌≡◌, ℕ, ◌≤◌, Bool, true, false, cond, ltb, ◌||◌, List, [], ◌∷◌, ◌++◌, Some, refl, ap, subst, ◌∙◌, arith, inl, inr}
 use Rattle.std.proofs.lemmas.Bool.{cases_Bool, ltb-false}
 use Rattle.plant_book.specs.declared.call.Call.{Call}
 use Rattle.plant_book.specs.declared.call.Call.TheVariants as calls
 use Rattle.plant_book.specs.declared.call.Reply.{Reply}
 use Rattle.plant_book.specs.declared.call.Reply.TheVariants as replies
 use Rattle.plant_book.specs.declared.book.Entry.{Entry}
-use Rattle.plant_book.specs.Sums.{last_that, through_last}
+use Rattle.plant_book.specs.Sums.{last_that}
 use Rattle.plant_book.specs.Site.{floors}
 use Rattle.plant_book.specs.Book.{BookRecord}
 use Rattle.plant_book.specs.Caps.{is_set, sets_by, sets_cap, cap_by, cap_after, cap_of}
 use Rattle.plant_book.specs.Answer.{reply_to, reply_to_cap, ceiling_with}
-use Rattle.plant_book.specs.Answered.{IsAnswer, IsNext, IsBook, with_entries}
+use Rattle.plant_book.specs.Answered.{IsAnswer, IsBook, with_entries}
 use Rattle.plant_book.proofs.Steps.{last_that-push}
 use Rattle.plant_book.proofs.Along.{along}
 

@@ -21,6 +21,7 @@ use Rattle.std.specs.List.{list_any}
 pub record IsCovered (book : BookRecord) (now : ℕ) (write : writes.Write) : Type 0 where
   pub is : write ≡ write_at book now write.inverter write.raw
   pub at : write.at ≡ now
+  pub left : requests write.inverter book.entries < REQUESTS_MAX
   pub loud : silent_until book < now
   pub allowed : mw_at book.site write.inverter write.raw ≤ target_at book now write.inverter
   pub fits : raise_at book now write.inverter write.raw ≤ unreserved_at book now
@@ -34,32 +35,32 @@ rest_of false x y z other is = (refl, is)
 granted_is : (made write : writes.Write) → replies.Granted made ≡ replies.Granted write → made ≡ write
 granted_is made write is = cc
 
-covered_by : (book : BookRecord) (now inverter raw : ℕ) (write : writes.Write) → silent_until book < now → mw_at book.site inverter raw ≤ target_at book now inverter → raise_at book now inverter raw ≤ unreserved_at book now
+covered_by : (book : BookRecord) (now inverter raw : ℕ) (write : writes.Write) → requests inverter book.entries < REQUESTS_MAX → silent_until book < now → mw_at book.site inverter raw ≤ target_at book now inverter → raise_at book now inverter raw ≤ unreserved_at book now
     → length (live book.site.rules book.entries now inverter) < 32 → write_at book now inverter raw ≡ write → IsCovered book now write
-covered_by book now inverter raw write loud allowed fits room is =
-    subst (λ (w : writes.Write). IsCovered book now w) is (record { is = refl; at = refl; loud = loud; allowed = allowed; fits = fits; room = room })
+covered_by book now inverter raw write left loud allowed fits room is =
+    subst (λ (w : writes.Write). IsCovered book now w) is (record { is = refl; at = refl; left = left; loud = loud; allowed = allowed; fits = fits; room = room })
 
-by_watts : (book : BookRecord) (now inverter raw : ℕ) (write : writes.Write) → silent_until book < now → mw_at book.site inverter raw ≤ target_at book now inverter → reply_by_watts book now inverter raw ≡ replies.Granted write → IsCovered book now write
+by_watts : (book : BookRecord) (now inverter raw : ℕ) (write : writes.Write) → requests inverter book.entries < REQUESTS_MAX → silent_until book < now → mw_at book.site inverter raw ≤ target_at book now inverter → reply_by_watts book now inverter raw ≡ replies.Granted write → IsCovered book now write
 unfolding reply_by_watts
-by_watts book now inverter raw write loud allowed is =
+by_watts book now inverter raw write left loud allowed is =
     let watts = rest_of (ltb (unreserved_at book now) (raise_at book now inverter raw)) _ _ (replies.Granted write) (λ no. cc) is in
     let room = rest_of (leb LIVE_MAX (length (live book.site.rules book.entries now inverter))) replies.Crowded (replies.Granted (write_at book now inverter raw)) (replies.Granted write) (λ no. cc) watts.1 in
-    covered_by book now inverter raw write loud allowed (ltb-false _ _ watts.0) (leb-false LIVE_MAX (length (live book.site.rules book.entries now inverter)) room.0) (granted_is (write_at book now inverter raw) write room.1)
+    covered_by book now inverter raw write left loud allowed (ltb-false _ _ watts.0) (leb-false LIVE_MAX (length (live book.site.rules book.entries now inverter)) room.0) (granted_is (write_at book now inverter raw) write room.1)
 
-by_policy : (book : BookRecord) (now inverter raw : ℕ) (write : writes.Write) → reply_by_policy book now inverter raw ≡ replies.Granted write → IsCovered book now write
+by_policy : (book : BookRecord) (now inverter raw : ℕ) (write : writes.Write) → requests inverter book.entries < REQUESTS_MAX → reply_by_policy book now inverter raw ≡ replies.Granted write → IsCovered book now write
 unfolding reply_by_policy
-by_policy book now inverter raw write is =
+by_policy book now inverter raw write left is =
     let over = rest_of (ltb (full_at book.site inverter) raw) _ _ (replies.Granted write) (λ no. cc) is in
     let silent = rest_of (leb now (silent_until book)) _ _ (replies.Granted write) (λ no. cc) over.1 in
     let allowed = rest_of (ltb (target_at book now inverter) (mw_at book.site inverter raw)) _ _ (replies.Granted write) (λ no. cc) silent.1 in
-    by_watts book now inverter raw write (leb-false now (silent_until book) silent.0) (ltb-false _ _ allowed.0) allowed.1
+    by_watts book now inverter raw write left (leb-false now (silent_until book) silent.0) (ltb-false _ _ allowed.0) allowed.1
 
 by_ask : (book : BookRecord) (now inverter raw : ℕ) (write : writes.Write) → reply_to_ask book now inverter raw ≡ replies.Granted write → IsCovered book now write
 unfolding reply_to_ask
 by_ask book now inverter raw write is =
     let linked = rest_of (eqb (link_number inverter book.entries) 0) _ _ (replies.Granted write) (λ no. cc) is in
     let left = rest_of (leb REQUESTS_MAX (requests inverter book.entries)) _ _ (replies.Granted write) (λ no. cc) linked.1 in
-    by_policy book now inverter raw write left.1
+    by_policy book now inverter raw write (leb-false REQUESTS_MAX (requests inverter book.entries) left.0) left.1
 
 no_grant_by_read : (book : BookRecord) (now inverter : ℕ) (write : writes.Write) → reply_to_read book now inverter ≡ replies.Granted write → ⊥
 unfolding reply_to_read

@@ -6,6 +6,7 @@ use Rattle.plant_book.proofs.Steps.{latest-push}
 use Rattle.plant_book.specs.declared.call.Call.{Call}
 use Rattle.plant_book.specs.declared.call.Call.TheVariants as calls
 use Rattle.plant_book.specs.declared.call.TheConstants.{MOMENT_MAX}
+use Rattle.plant_book.specs.declared.carry.TheConstants.{CALLS_MAX}
 use Rattle.plant_book.specs.declared.book.Entry.{Entry}
 use Rattle.plant_book.specs.Site.{SiteRecord, inverters}
 use Rattle.plant_book.specs.Book.{BookRecord}
@@ -84,11 +85,11 @@ IsNext-entered book call kept high of_site in_range =
 abbrev pub with_entry : BookRecord → Entry → BookRecord
 with_entry book entry = with_entries book (book.entries ++ entry ∷ [])
 
-pub IsBook-push : (book : BookRecord) (entry : Entry) → IsBook book → length book.entries < book.site.room → IsNext book.site book.start book.entries entry.call → entry.reply ≡ reply_to book entry.call → IsBook (with_entry book entry)
+pub IsBook-push : (book : BookRecord) (entry : Entry) → IsBook book → length book.entries < CALLS_MAX → IsNext book.site book.start book.entries entry.call → entry.reply ≡ reply_to book entry.call → IsBook (with_entry book entry)
 IsBook-push book entry kept room next reply = record {
   openable = kept.openable;
   start_high = kept.start_high;
-  room = omega (arith, length_push book.entries entry);
+  calls = omega (arith, length_push book.entries entry);
   answered = EachInTurn-push (IsAnswer book) [] book.entries entry kept.answered reply;
   entered = EachInTurn-push (λ es e. IsNext book.site book.start es e.call) [] book.entries entry kept.entered next;
 }
@@ -98,4 +99,4 @@ abbrev pub empty_book : SiteRecord → ℕ → BookRecord
 empty_book site start = record { site = site; start = start; entries = [] }
 
 pub IsBook-empty : (site : SiteRecord) (start : ℕ) → IsOpenable site → start ≤ MOMENT_MAX → IsBook (empty_book site start)
-IsBook-empty site start openable low = record { openable = openable; start_high = low; room = omega (arith, openable.checked.room_low); answered = tt; entered = tt }
+IsBook-empty site start openable low = record { openable = openable; start_high = low; calls = omega arith; answered = tt; entered = tt }

@@ -24,3 +24,8 @@ pub mod Prefix
 pub mod Growth
 pub mod Lowered
 pub mod Safe
+pub mod Behind
+pub mod LiveSteps
+pub mod Marks
+pub mod FewRequests
+pub mod Lives

@@ -33,7 +33,7 @@ filter-both p q r same (x ∷ xs) =
     ]
 
 -- current at two moments is current at the later one
-current_both : (rules : Rules) (old new inverter : ℕ) (write : writes.Write) → old ≤ new
+pub current_both : (rules : Rules) (old new inverter : ℕ) (write : writes.Write) → old ≤ new
     → ((eqb write.inverter inverter && leb old (write.at + reach rules)) && leb new (write.at + reach rules)) ≡ (eqb write.inverter inverter && leb new (write.at + reach rules))
 current_both rules old new inverter write le =
     elim (cases_Bool (leb new (write.at + reach rules))) [

@@ -8,13 +8,11 @@ use Rattle.std.proofs.lemmas.List.Concat.{flat_map-cons}
 use Rattle.std.proofs.lemmas.List.Elements.{Contains-push, Contains-append_cases, Contains-append_left, Contains-append_right}
 use Rattle.std.proofs.lemmas.Grind.{flat_map-append}
 use Rattle.limiter_num.specs.Timers.{reach}
-use Rattle.plant_book.specs.declared.call.Call.TheVariants as calls
-use Rattle.plant_book.specs.declared.call.Reply.{Reply}
 use Rattle.plant_book.specs.declared.call.Reply.TheVariants as replies
 use Rattle.plant_book.specs.declared.call.Write as writes
 use Rattle.plant_book.specs.declared.book.Entry.{Entry}
-use Rattle.plant_book.specs.Sums.{last_that, through_last, sum_below}
-use Rattle.plant_book.specs.Site.{inverters, mw_at, floor_at, floors}
+use Rattle.plant_book.specs.Sums.{last_that}
+use Rattle.plant_book.specs.Site.{inverters, mw_at, floor_at}
 use Rattle.plant_book.specs.Book.{BookRecord}
 use Rattle.plant_book.specs.Calls.{moment, latest}
 use Rattle.plant_book.specs.Writes.{grant_of, granted, ends, ends_by, standing, is_current, live}
@@ -23,10 +21,10 @@ use Rattle.plant_book.specs.Reserved.{covering, reserved_at, total_at, total, no
 use Rattle.plant_book.specs.Policy.{policy_target, fall_share, target_at}
 use Rattle.plant_book.specs.Answer.{silent_until, ceiling_with}
 use Rattle.plant_book.specs.Ceiling.{total_when_set, ceiling_since, ceiling}
-use Rattle.plant_book.specs.Answered.{IsAnswer, IsNext, IsBook, with_entries}
+use Rattle.plant_book.specs.Answered.{IsAnswer, IsBook, with_entries}
 use Rattle.plant_book.specs.Covered.{IsUnderCeiling, IsBackUnderCap, TellsCap}
-use Rattle.plant_book.proofs.Steps.{latest-push, last_that-push, through_last-push_passes, through_last-push_fails}
-use Rattle.plant_book.proofs.Maxima.{fold_max_filter, sum_below_le, only_element}
+use Rattle.plant_book.proofs.Steps.{latest-push, through_last-push_passes, through_last-push_fails}
+use Rattle.plant_book.proofs.Maxima.{fold_max_filter, sum_below_le}
 use Rattle.plant_book.proofs.Granting.{granted_is_covered}
 use Rattle.plant_book.proofs.Along.{along}
 use Rattle.plant_book.proofs.CapInForce.{SetsCap, sets_cap-is, last_set-set, last_set-same, cap_of-set, cap_of-same, cap_of-is, cap_of-empty, cap_within}

@@ -1,8 +1,8 @@
 -- The numbers of requests rise along a link, and where grants and answered reads stand.
-use Rattle.std.proofs.Common.{◌≡◌, ℕ, ◌+◌, ◌≤◌, Bool, true, false, cond, not, ◌||◌, eqb, leb, ltb, List, [], ◌∷◌, ◌++◌, length, map, Option, Some, None, refl, sym, ap, subst, ◌∙◌, append_assoc, arith, inl, inr}
+use Rattle.std.proofs.Common.{◌≡◌, ℕ, ◌+◌, ◌<◌, ◌≤◌, Bool, true, false, cond, not, ◌||◌, eqb, leb, ltb, List, [], ◌∷◌, ◌++◌, length, map, Option, Some, None, refl, sym, ap, subst, ◌∙◌, append_assoc, arith, inl, inr}
 use Rattle.std.specs.Prelude.{filter, Contains, find, reverse}
 use Rattle.std.specs.List.{list_any}
-use Rattle.std.proofs.lemmas.Bool.{cases_Bool, eqb-true, eq-eqb}
+use Rattle.std.proofs.lemmas.Bool.{cases_Bool, eqb-true, eq-eqb, leb-false}
 use Rattle.std.proofs.lemmas.List.{append-nil}
 use Rattle.std.proofs.lemmas.List.Elements.{Contains-push, Contains-append_cases, Contains-append_left, Contains-append_right}
 use Rattle.limiter_num.specs.declared.rules.Rules.{Rules}
@@ -75,6 +75,7 @@ request_is_no_link inverter book _ reply right request = refl
 pub record IsReadAt (book : BookRecord) (now : ℕ) (read : reads.Read) : Type 0 where
   pub link : read.link ≡ link_number read.inverter book.entries
   pub number : read.number ≡ requests read.inverter book.entries + 1
+  pub left : requests read.inverter book.entries < REQUESTS_MAX
 
 read_is : (made read : reads.Read) → replies.ReadAs made ≡ replies.ReadAs read → made ≡ read
 read_is made read is = cc
@@ -84,7 +85,7 @@ unfolding reply_to_read
 by_read book now inverter read is =
     let linked = rest_of (eqb (link_number inverter book.entries) 0) _ _ (replies.ReadAs read) (λ other. cc) is in
     let left = rest_of (leb REQUESTS_MAX (requests inverter book.entries)) _ _ (replies.ReadAs read) (λ other. cc) linked.1 in
-    subst (λ (r : reads.Read). IsReadAt book now r) (read_is _ read left.1) (record { link = refl; number = refl })
+    subst (λ (r : reads.Read). IsReadAt book now r) (read_is _ read left.1) (record { link = refl; number = refl; left = leb-false REQUESTS_MAX (requests inverter book.entries) left.0 })
 
 no_read_by_watts : (book : BookRecord) (now inverter raw : ℕ) (read : reads.Read) → reply_by_watts book now inverter raw ≡ replies.ReadAs read → ⊥
 unfolding reply_by_watts

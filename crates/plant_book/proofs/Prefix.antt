@@ -15,7 +15,7 @@ pub IsBook-first : (book : BookRecord) (count : ℕ) → IsBook book → IsBook 
 IsBook-first book count kept = record {
   openable = kept.openable;
   start_high = kept.start_high;
-  room = omega (arith, kept.room, length-take count book.entries);
+  calls = omega (arith, kept.calls, length-take count book.entries);
   answered = each_in_turn_first (IsAnswer book) [] book.entries count kept.answered;
   entered = each_in_turn_first (λ es entry. IsNext book.site book.start es entry.call) [] book.entries count kept.entered;
 }

@@ -1,10 +1,10 @@
 -- What one more entry at the end of a book changes.
-use Rattle.std.proofs.Common.{◌≡◌, ℕ, ◌+◌, ◌-◌, ◌<◌, Bool, true, false, cond, not, List, [], ◌∷◌, ◌++◌, length, take, drop, get_or, Some, refl, ap, ◌∙◌, arith}
+use Rattle.std.proofs.Common.{◌≡◌, ℕ, ◌+◌, ◌-◌, ◌<◌, Bool, true, false, cond, not, List, [], ◌∷◌, ◌++◌, length, take, drop, get_or, Some, refl, sym, ap, ◌∙◌, append_assoc, arith}
 use Rattle.std.specs.Prelude.{count_by, find, slice_get}
 use Rattle.std.specs.Option.{option_map_or}
 use Rattle.plant_book.specs.Sums.{last_that, through_last}
 use Rattle.std.specs.List.{after_last, prefix_len, suffix_len}
-use Rattle.std.proofs.lemmas.List.{length_push, take_more, take_all, take-append-le, drop-append-le, drop_all, reverse-append}
+use Rattle.std.proofs.lemmas.List.{append-nil, length_push, take_more, take_all, take-append-le, drop-append-le, drop_all, reverse-append}
 use Rattle.std.proofs.lemmas.List.Sums.{suffix_len-le-length, sum_by-append}
 use Rattle.plant_book.specs.declared.book.Entry.{Entry}
 use Rattle.plant_book.specs.Calls.{moment, latest}
@@ -97,6 +97,28 @@ module _ {X : Type 0} (p : X → Bool) (xs : List X) (place : ℕ) (default : X)
 
   pub last_that-more_fails : p (get_or xs place default) ≡ false → last_that p (take (place + 1) xs) ≡ last_that p (take place xs)
   last_that-more_fails fails = last_that-more p xs place default within ∙ rw fails refl
+
+-- the same where other elements stand before the list
+pub behind_more : {X : Type 0} (before xs : List X) (place : ℕ) (default : X) → place < length xs → before ++ take (place + 1) xs ≡ (before ++ take place xs) ++ get_or xs place default ∷ []
+behind_more {X = X} before xs place default within = ap (λ (ys : List X). before ++ ys) (take_more xs place default within) ∙ sym (append_assoc before (take place xs) (get_or xs place default ∷ []))
+
+pub behind_none : {X : Type 0} (before xs : List X) → before ++ take 0 xs ≡ before
+behind_none {X = X} before xs = append-nil before
+
+module _ {X : Type 0} (p : X → Bool) (before xs : List X) (place : ℕ) (default : X) (within : place < length xs) where
+  pub last_that-behind_passes : p (get_or xs place default) ≡ true → last_that p (before ++ take (place + 1) xs) ≡ Some (get_or xs place default)
+  last_that-behind_passes passes = ap (last_that p) (behind_more before xs place default within) ∙ last_that-push p (before ++ take place xs) (get_or xs place default) ∙ rw passes refl
+
+  pub last_that-behind_fails : p (get_or xs place default) ≡ false → last_that p (before ++ take (place + 1) xs) ≡ last_that p (before ++ take place xs)
+  last_that-behind_fails fails = ap (last_that p) (behind_more before xs place default within) ∙ last_that-push p (before ++ take place xs) (get_or xs place default) ∙ rw fails refl
+
+module _ (inverter : ℕ) (before entries : List Entry) (place : ℕ) (default : Entry) (within : place < length entries) where
+  pub requests-behind_link : is_link inverter (get_or entries place default) ≡ true → requests inverter (before ++ take (place + 1) entries) ≡ 0
+  requests-behind_link link = ap (requests inverter) (behind_more before entries place default within) ∙ requests-push_link inverter (before ++ take place entries) (get_or entries place default) link
+
+  pub requests-behind : (request : Bool) → is_link inverter (get_or entries place default) ≡ false → is_request inverter (get_or entries place default) ≡ request
+      → requests inverter (before ++ take (place + 1) entries) ≡ requests inverter (before ++ take place entries) + cond request 1 0
+  requests-behind request other is = ap (requests inverter) (behind_more before entries place default within) ∙ rw (← is) (requests-push inverter (before ++ take place entries) (get_or entries place default) other)
 
 -- the same for the elements up to it
 module _ {X : Type 0} (p : X → Bool) (xs : List X) (place : ℕ) (default : X) (within : place < length xs) where

@@ -3,6 +3,7 @@ use Rattle.std.specs.Prelude.{◌≡◌, ℕ, ◌<◌, ◌≤◌, ◌^◌, List,
 use Rattle.plant_book.specs.declared.call.Call.{Call}
 use Rattle.plant_book.specs.declared.call.Call.TheVariants as calls
 use Rattle.plant_book.specs.declared.call.TheConstants.{MOMENT_MAX}
+use Rattle.plant_book.specs.declared.carry.TheConstants.{CALLS_MAX}
 use Rattle.plant_book.specs.declared.site.TheConstants.{INVERTERS_MAX}
 use Rattle.plant_book.specs.declared.book.Entry.{Entry}
 use Rattle.plant_book.specs.Site.{SiteRecord, IsSite, inverters, floors}
@@ -60,6 +61,6 @@ pub record IsOpenable (site : SiteRecord) : Type 0 where
 pub record IsBook (book : BookRecord) : Type 0 where
   pub openable : IsOpenable book.site
   pub start_high : book.start ≤ MOMENT_MAX
-  pub room : length book.entries ≤ book.site.room
+  pub calls : length book.entries ≤ CALLS_MAX
   pub answered : IsAnswered book
   pub entered : EachInTurn (λ before entry. IsNext book.site book.start before entry.call) [] book.entries

@@ -2,6 +2,7 @@ pub mod Sums
 pub mod Site
 pub mod Book
 pub mod Port
+pub mod Part
 pub mod Calls
 pub mod Requests
 pub mod Writes
@@ -11,6 +12,7 @@ pub mod Policy
 pub mod Answer
 pub mod Ceiling
 pub mod Answered
+pub mod Carry
 pub mod History
 pub mod Behaviour
 pub mod Held

@@ -1,5 +1,5 @@
 -- What a call makes of the writes that are live and of what is reserved.
-use Rattle.std.specs.Prelude.{◌≡◌, ℕ, Bool, true, false, not, nat_le, ◌==◌, List, ◌++◌, filter}
+use Rattle.std.specs.Prelude.{◌≡◌, ℕ, Bool, true, false, not, ◌&&◌, nat_le, ◌==◌, List, ◌++◌, filter}
 use Rattle.limiter_num.specs.declared.rules.Rules.{Rules}
 use Rattle.limiter_num.specs.Timers.{last_moment}
 use Rattle.plant_book.specs.declared.call.Reply.{Reply}
@@ -21,6 +21,12 @@ is_refusal replies.Taken = false
 is_refusal (replies.Total watts) = false
 is_refusal (replies.CapSet cap ceiling) = false
 is_refusal _ = true
+
+-- whether an entry, behind these before it, neither gives the write back nor frees it, and it is not past its last
+-- moment at the entry's own
+abbrev pub stays_by : Rules → List Entry → Entry → writes.Write → Bool
+stays_by rules before entry write = not (ends rules before entry write)
+    && nat_le (moment entry.call) (last_moment rules write.at)
 
 -- of these writes those that an entry, behind these before it, neither gives back nor frees, and that are not
 -- past

@@ -1,11 +1,12 @@
 ghost use Rattle.std.specs.Prelude.{◌≡◌, ◌<◌, ◌≤◌, ◌*◌, ◌^◌, Some, IfOk, List, [], ◌∷◌, ◌++◌, length, slice_get};
 ghost use Rattle.plant_book.specs.Site.{inverters, floors, mw_at, floor_at, floor_raw_at, full_at, rated_at, raw_at};
 ghost use Rattle.plant_book.specs.Calls.{latest};
-ghost use Rattle.plant_book.specs.Reserved.{now_of};
+ghost use Rattle.plant_book.specs.Part.{last_moment_of, begin_of};
 ghost use Rattle.plant_book.specs.Answer.{silent_until};
-ghost use Rattle.plant_book.specs.Answered.{IsBook};
+ghost use Rattle.plant_book.specs.Carry.{IsBookPart, EachBook};
 
 use crate::call::{Call, Reply};
+use crate::carry::Carry;
 use crate::site::{Site, Unit};
 use limiter_num::{NoMemory, Rules};
 use share_policy::Policy;
@@ -34,51 +35,63 @@ const _: () = prove!(size_of::<Entry>() <= ENTRY_BYTES_MAX);
 pub struct Book {
     /// The site of the book.
     pub site: Site,
-    /// The moment at which the book begins, in ms.
+    /// The moment at which the life begins, in ms.
     pub start: u64,
+    /// What the books before it left, or nothing for the first book of a life.
+    pub carry: Option<Carry>,
     /// The entries in order.
     pub entries: Vec<Entry>,
 }
 
 impl Model for Book {
     ghost use Rattle.std.specs.Prelude.{◌≤◌, vec_capacity};
-    ghost use Rattle.plant_book.specs.Book.{BookRecord};
+    ghost use Rattle.plant_book.specs.Part.{PartRecord};
 
-    ghost Value = { BookRecord };
+    ghost Value = { PartRecord };
 
-    ghost view = { λ b. record { site = b.site; start = b.start; entries = b.entries.items } };
+    ghost view = { λ b. record { site = b.site; start = b.start; carry = b.carry; entries = b.entries.items } };
 
     ghost invariant = { λ b. b.site.room ≤ vec_capacity b.entries };
 }
 
 impl Book {
-    /// A book with no entry, and the memory for its whole room.
-    pub fn new(alloc: Global, site: Site, start: u64) -> Result<Book, NoMemory>
-        ensures { IfOk result (λ book. book ≡ record { site = site; start = start; entries = [] }) }
+    /// A book with no entry, and the memory for its whole room. It begins with what the books before it left, if
+    /// it isn't the first of its life.
+    pub fn new(
+        alloc: Global,
+        site: Site,
+        start: u64,
+        carry: Option<Carry>,
+    ) -> Result<Book, NoMemory>
+        ensures { IfOk result
+            (λ book. book ≡ record { site = site; start = start; carry = carry; entries = [] }) }
     {
         match Vec::with_capacity(alloc, site.room as usize) {
             Ok(entries) => Ok(Book {
                 site,
                 start,
+                carry,
                 entries,
             }),
             Err(_) => Err(NoMemory),
         }
     }
 
-    /// The moment of the last entry, or the start where there is none, in ms.
-    #[tactic(auto, unfolding(crate::specs::Reserved::now_of))]
+    /// The moment of the last entry, or that at which the book begins where there is none, in ms.
     pub fn latest(&self) -> u64
-        ensures { result ≡ now_of self.now }
+        ensures { result ≡ last_moment_of self.now }
     {
-        latest(self.start, &self.entries)
+        latest(self.begin(), &self.entries)
     }
 
-    /// The moment at which the book begins, in ms.
-    pub(crate) fn start(&self) -> u64
-        ensures { result ≡ self.now.start }
+    /// The moment at which the book begins: the last one of those before it, or the start of the life, in ms.
+    fn begin(&self) -> u64
+        ensures { result ≡ begin_of self.now }
     {
-        self.start
+        match &self.carry {
+            Some(carry) => carry.last,
+            None => self.start,
+        }
     }
 
     /// Writes one more entry at the end.
@@ -131,7 +144,7 @@ impl Book {
 
     /// The milliwatts of all floors.
     pub(crate) fn floors(&self) -> u64
-        requires { IsBook self.now }
+        requires { IsBookPart self.now }
         ensures { result ≡ floors self.now.site }
     {
         let site = &self.site;
@@ -140,8 +153,8 @@ impl Book {
 
     /// The last moment at which earlier lives may still act, in ms.
     pub(crate) fn silent_until(&self) -> u64
-        requires { IsBook self.now }
-        ensures { result ≡ silent_until self.now }
+        requires { IsBookPart self.now }
+        ensures { EachBook self.now (λ whole. result ≡ silent_until whole) }
     {
         self.start + self.rules().reach()
     }
@@ -207,7 +220,7 @@ impl Book {
 }
 
 /// The moment of the last of the entries, or the start where there is none, in ms.
-pub(crate) fn latest(start: u64, entries: &[Entry]) -> u64
+fn latest(start: u64, entries: &[Entry]) -> u64
     ensures { result ≡ latest start entries.now }
 {
     match entries.last() {

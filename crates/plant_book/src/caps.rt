@@ -1,13 +1,16 @@
-ghost use Rattle.std.specs.Prelude.{◌≡◌, ◌≤◌};
-ghost use Rattle.plant_book.specs.Sums.{last_that, through_last};
+ghost use Rattle.std.specs.Prelude.{◌≡◌, ℕ, ◌+◌, ◌<◌, ◌≤◌, List, ◌++◌, length};
+ghost use Rattle.plant_book.specs.declared.book.Entry.{Entry};
+ghost use Rattle.plant_book.specs.Sums.{last_that};
 ghost use Rattle.plant_book.specs.Caps as rule;
-ghost use Rattle.plant_book.specs.Reserved.{now_of};
 ghost use Rattle.plant_book.specs.Answer as answers;
 ghost use Rattle.plant_book.specs.Ceiling as ceilings;
-ghost use Rattle.plant_book.specs.Answered.{IsBook};
+ghost use Rattle.plant_book.specs.Part.{book_behind, part_first, last_moment_of};
+ghost use Rattle.plant_book.specs.Carry.{mark_of, IsBookPart, EachBefore, EachBook};
 
-use crate::book::{Book, Entry, latest};
+use crate::before::{cap_before, mark_before};
+use crate::book::{Book, Entry};
 use crate::call::{Call, Reply};
+use crate::carry::CapMark;
 use crate::reserved::{total_among, total_at};
 
 /// Whether the entry sets the cap.
@@ -15,42 +18,6 @@ fn sets_cap(entry: &Entry) -> bool
     ensures { result ≡ rule.sets_cap entry.now }
 {
     matches!(entry.call, Call::Cap { .. }) && matches!(entry.reply, Reply::CapSet { .. })
-}
-
-/// The last of the entries that sets the cap, if one does.
-fn last_set(entries: &[Entry]) -> Option<Entry>
-    ensures { result ≡ last_that rule.sets_cap entries.now }
-{
-    let mut last = None;
-    for entry in entries {
-        if sets_cap(entry) {
-            last = Some(*entry);
-        }
-    }
-    last
-}
-
-/// The entries up to the last that sets the cap, with it.
-fn through_set(entries: &[Entry]) -> &[Entry]
-    ensures { result.now ≡ through_last rule.sets_cap entries.now }
-{
-    let mut through = 0;
-    for (place, entry) in entries.iter().enumerate() {
-        if sets_cap(entry) {
-            through = place + 1;
-        }
-    }
-    &entries[..through]
-}
-
-/// The cap that the entry, if any, set, in mW, or else this number.
-fn cap_after(last: Option<Entry>, otherwise: u64) -> u64
-    ensures { result ≡ rule.cap_after otherwise last }
-{
-    match last {
-        Some(set) => cap_by(&set.call, otherwise),
-        None => otherwise,
-    }
 }
 
 /// The cap that a call wants, in mW, or else this number.
@@ -63,55 +30,92 @@ fn cap_by(call: &Call, otherwise: u64) -> u64
     }
 }
 
+/// The cap in force, in mW, where it was this one before the entries.
+fn cap_from(from: u64, entries: &[Entry]) -> u64
+    ensures { (most : ℕ) (before : List Entry)
+        → from ≡ rule.cap_after most (last_that rule.sets_cap before)
+        → result ≡ rule.cap_after most (last_that rule.sets_cap (before ++ entries.now)) }
+{
+    let mut cap = from;
+    for entry in entries {
+        if sets_cap(entry) {
+            cap = cap_by(&entry.call, cap);
+        }
+    }
+    cap
+}
+
 /// The cap in force, in mW.
 #[tactic(auto, unfolding(crate::specs::Caps::cap_of))]
 pub fn cap_plain(book: &Book) -> u64
-    requires { IsBook book.now }
-    ensures cap { result ≡ rule.cap_of book.now }
+    requires { IsBookPart book.now }
+    ensures cap { EachBook book.now (λ whole. result ≡ rule.cap_of whole) }
     ensures high { result ≤ book.now.site.cap }
 {
-    cap_after(last_set(book.entries()), book.site_cap())
+    cap_from(cap_before(book), book.entries())
 }
 
-/// What was reserved in all right after the cap in force was set, in mW.
-fn total_when_set(book: &Book) -> u64
-    requires { IsBook book.now }
-    ensures { result ≡ ceilings.total_when_set book.now }
+/// The mark that the entry at a place of the book sets, or else this one.
+fn mark_after(book: &Book, place: usize, mark: Option<CapMark>) -> Option<CapMark>
+    requires book { IsBookPart book.now }
+    requires within { place < length book.now.entries }
+    ensures { EachBefore book.now (λ before. mark ≡ mark_of (book_behind before (part_first book.now place))
+        → result ≡ mark_of (book_behind before (part_first book.now (place + 1)))) }
 {
-    let entries = through_set(book.entries());
-    total_among(book, entries, latest(book.start(), entries))
+    let entry = &book.entries()[place];
+    if !sets_cap(entry) {
+        return mark;
+    }
+    let at = entry.call.at();
+    let was = total_among(book, place + 1, at);
+    Some(CapMark { at, was })
+}
+
+/// The last Cap that was set, with what was reserved right after it.
+pub fn cap_mark(book: &Book) -> Option<CapMark>
+    requires { IsBookPart book.now }
+    ensures { EachBook book.now (λ whole. result ≡ mark_of whole) }
+{
+    let mut mark = mark_before(book);
+    for place in 0..book.entries().len() {
+        mark = mark_after(book, place, mark);
+    }
+    mark
 }
 
 /// What all limits together stay under at the last moment of the book, in mW.
 #[tactic(auto, unfolding(crate::specs::Ceiling::ceiling))]
 pub fn ceiling_plain(book: &Book) -> u64
-    requires { IsBook book.now }
-    ensures { result ≡ ceilings.ceiling book.now }
+    requires { IsBookPart book.now }
+    ensures { EachBook book.now (λ whole. result ≡ ceilings.ceiling whole) }
 {
     if book.latest() <= book.silent_until() {
         return book.site_cap();
     }
-    ceiling_since(book, last_set(book.entries()))
+    ceiling_since(book, cap_mark(book))
 }
 
-/// The same behind the silence, where this entry, if any, set the cap in force.
-fn ceiling_since(book: &Book, last: Option<Entry>) -> u64
-    requires { IsBook book.now }
-    ensures { result ≡ ceilings.ceiling_since book.now last }
+/// The same behind the silence, where the cap in force was set so.
+fn ceiling_since(book: &Book, mark: Option<CapMark>) -> u64
+    requires { IsBookPart book.now }
+    ensures { EachBook book.now (λ whole. mark ≡ mark_of whole
+        → result ≡ ceilings.ceiling_since whole (last_that rule.sets_cap whole.entries)) }
 {
-    match last {
-        Some(set) if book.latest() <= set.call.at().saturating_add(book.rules().reach()) =>
-            cap_plain(book).max(total_when_set(book)),
-        Some(_) => cap_plain(book),
+    let cap = cap_plain(book);
+    match mark {
+        Some(mark) if book.latest() <= mark.at.saturating_add(book.rules().reach()) => {
+            cap.max(mark.was)
+        }
+        Some(_) => cap,
         None => book.site_cap(),
     }
 }
 
 /// The ceiling right after a cap is set at a moment from the last of the book on. Both caps are in mW.
 pub fn ceiling_with(book: &Book, now: u64, mw: u64) -> u64
-    requires book { IsBook book.now }
-    requires later { now_of book.now ≤ now }
-    ensures { result ≡ answers.ceiling_with book.now now mw }
+    requires book { IsBookPart book.now }
+    requires later { last_moment_of book.now ≤ now }
+    ensures { EachBook book.now (λ whole. result ≡ answers.ceiling_with whole now mw) }
 {
     if now <= book.silent_until() {
         return book.site_cap();

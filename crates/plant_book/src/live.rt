@@ -1,13 +1,17 @@
-ghost use Rattle.std.specs.Prelude.{◌≡◌, ◌+◌, ◌<◌, ◌≤◌, filter, length, take, drop, slice_get, Some, IfSome, option_to_list, not};
+ghost use Rattle.std.specs.Prelude.{◌≡◌, ◌+◌, ◌<◌, ◌≤◌, nat_le, ◌++◌, filter, length, take, IfSome, option_to_list, not};
+ghost use Rattle.limiter_num.specs.Timers.{last_moment};
 ghost use Rattle.plant_book.specs.Site.{inverters};
-ghost use Rattle.plant_book.specs.Reserved.{now_of};
+ghost use Rattle.plant_book.specs.Calls.{named};
 ghost use Rattle.plant_book.specs.Writes as rule;
-ghost use Rattle.plant_book.specs.Answered.{IsBook};
+ghost use Rattle.plant_book.specs.Lifetime.{granted_to, stays_by};
+ghost use Rattle.plant_book.specs.Part.{book_behind, part_first, last_moment_of};
+ghost use Rattle.plant_book.specs.Carry.{live_writes, IsBookPart, EachBefore, EachBook};
 ghost use Rattle.arrayvec.specs.ArrayVec.{array_vec_len};
 
+use crate::before::writes_before;
 use crate::book::{Book, Entry};
 use crate::call::{Call, LIVE_MAX, Read, Reply, Write};
-use crate::requests::pending_read;
+use crate::requests::pending_first;
 use arrayvec::ArrayVec;
 use limiter_num::Rules;
 
@@ -43,9 +47,12 @@ pub fn frees(rules: &Rules, pending: Option<Read>, raw: u16, write: &Write) -> b
     }
 }
 
-/// Whether the entry, behind those before it, gives the write back or frees it.
-fn ends(rules: &Rules, before: &[Entry], entry: &Entry, write: &Write) -> bool
-    ensures { result ≡ rule.ends rules.now before.now entry.now write.now }
+/// Whether the entry at a place of the book gives the write back or frees it.
+fn ends(book: &Book, place: usize, entry: &Entry, write: &Write) -> bool
+    requires of_site { IfSome (named entry.now.call) (λ inverter. inverter < inverters book.now.site) }
+    requires within { place ≤ length book.now.entries }
+    ensures { EachBefore book.now (λ before. result
+        ≡ rule.ends book.now.site.rules (before ++ take place book.now.entries) entry.now write.now) }
 {
     match entry.call {
         Call::Back {
@@ -56,86 +63,139 @@ fn ends(rules: &Rules, before: &[Entry], entry: &Entry, write: &Write) -> bool
         } => entry.reply == Reply::Taken && is_numbered(write, inverter, link, number),
         Call::Saw { inverter, raw, .. } => {
             matches!(entry.reply, Reply::Freed { .. })
-                && frees(rules, pending_read(before, inverter), raw, write)
+                && frees(
+                    &book.rules(),
+                    pending_first(book, place, inverter),
+                    raw,
+                    write,
+                )
         }
         _ => false,
     }
 }
 
-/// Whether an entry from the place on gives the write back or frees it.
-fn is_ended(rules: &Rules, entries: &[Entry], place: usize, write: &Write) -> bool
-    requires { place ≤ length entries.now }
-    ensures { result ≡ rule.ends_later rules.now (take place entries.now) (drop place entries.now) write.now }
+/// Whether the write isn't past its last moment.
+fn is_on(write: &Write, rules: &Rules, now: u64) -> bool
+    ensures { result ≡ nat_le now (last_moment rules.now write.now.at) }
 {
-    for later in place..entries.len() {
-        if ends(rules, &entries[..later], &entries[later], write) {
-            return true;
+    now <= write.at.saturating_add(rules.reach())
+}
+
+/// Whether the entry at a place of the book leaves the write, and it isn't past by the entry's moment.
+fn stays(book: &Book, place: usize, entry: &Entry, write: &Write) -> bool
+    requires of_site { IfSome (named entry.now.call) (λ inverter. inverter < inverters book.now.site) }
+    requires within { place ≤ length book.now.entries }
+    ensures { EachBefore book.now (λ before. result
+        ≡ stays_by book.now.site.rules (before ++ take place book.now.entries) entry.now write.now) }
+{
+    !ends(book, place, entry, write) && is_on(write, &book.rules(), entry.call.at())
+}
+
+/// Of these writes those that the entry at a place of the book leaves.
+fn left_after(book: &Book, place: usize, entry: &Entry, live: &LiveWrites) -> LiveWrites
+    requires of_site { IfSome (named entry.now.call) (λ inverter. inverter < inverters book.now.site) }
+    requires within { place ≤ length book.now.entries }
+    ensures { EachBefore book.now (λ before. result.items
+        ≡ filter (stays_by book.now.site.rules (before ++ take place book.now.entries) entry.now)
+        live.now.items) }
+{
+    let mut left = LiveWrites::new();
+    for write in live.as_slice() {
+        if stays(book, place, entry, write) {
+            left.push(*write);
         }
     }
-    false
+    left
 }
 
-/// Whether the write is of the inverter, and not past its last moment.
-fn is_current(write: &Write, rules: &Rules, now: u64, inverter: u8) -> bool
-    ensures { result ≡ rule.is_current rules.now now inverter write.now }
-{
-    write.inverter == inverter && now <= write.at.saturating_add(rules.reach())
-}
-
-/// The write that an entry grants, if it is of the inverter and not past its last moment.
-fn current_grant(entry: &Entry, rules: &Rules, now: u64, inverter: u8) -> Option<Write>
-    ensures { option_to_list result ≡ filter (rule.is_current rules.now now inverter)
-        (rule.grant_of entry.now) }
+/// The write that an entry grants to the inverter, if it does.
+fn grant_to(entry: &Entry, inverter: u8) -> Option<Write>
+    ensures { option_to_list result ≡ granted_to inverter entry.now }
 {
     match entry.reply {
-        Reply::Granted(write) if is_current(&write, rules, now, inverter) => Some(write),
+        Reply::Granted(write) if write.inverter == inverter => Some(write),
         _ => None,
     }
 }
 
-/// The write that an entry grants, if it is live at the moment. `behind` is how many entries end with this
-/// one.
-fn live_grant(
-    rules: &Rules,
-    entries: &[Entry],
-    behind: usize,
-    entry: &Entry,
-    now: u64,
-    inverter: u8,
-) -> Option<Write>
-    requires { behind ≤ length entries.now }
-    ensures { option_to_list result ≡ filter (rule.is_current rules.now now inverter)
-        (filter (λ write. not (rule.ends_later rules.now (take behind entries.now)
-        (drop behind entries.now) write))
-        (rule.grant_of entry.now)) }
+/// The live writes of the inverter after one more entry of the book, from those before it.
+fn live_after(book: &Book, place: usize, inverter: u8, live: &LiveWrites) -> LiveWrites
+    requires book { IsBookPart book.now }
+    requires within { place < length book.now.entries }
+    requires live { EachBefore book.now (λ before. live.now.items
+        ≡ live_writes (book_behind before (part_first book.now place)) inverter) }
+    ensures { EachBefore book.now (λ before. result.items
+        ≡ live_writes (book_behind before (part_first book.now (place + 1))) inverter) }
 {
-    match current_grant(entry, rules, now, inverter) {
-        Some(write) if !is_ended(rules, entries, behind, &write) => Some(write),
-        _ => None,
+    let entry = &book.entries()[place];
+    let mut next = left_after(book, place, entry, live);
+    if let Some(write) = grant_to(entry, inverter) {
+        next.push(write);
     }
+    next
 }
 
-/// The writes of the inverter that are live at the moment.
-pub fn live_among(rules: &Rules, entries: &[Entry], now: u64, inverter: u8) -> LiveWrites
-    requires { length (rule.live rules.now entries.now now inverter) ≤ 32 }
-    ensures { result.items ≡ rule.live rules.now entries.now now inverter }
+/// A copy of so few writes.
+fn copied(writes: &[Write]) -> LiveWrites
+    requires { length writes.now ≤ 32 }
+    ensures { result.items ≡ writes.now }
 {
-    let mut live = LiveWrites::new();
-    for (place, entry) in entries.iter().enumerate() {
-        if let Some(write) = live_grant(rules, entries, place + 1, entry, now, inverter) {
-            live.push(write);
-        }
+    let mut copy = LiveWrites::new();
+    for write in writes {
+        copy.push(*write);
+    }
+    copy
+}
+
+/// The writes of the inverter that are live at the last moment of so many entries of the book.
+fn live_first(book: &Book, count: usize, inverter: u8) -> LiveWrites
+    requires book { IsBookPart book.now }
+    requires of_site { inverter < inverters book.now.site }
+    requires within { count ≤ length book.now.entries }
+    ensures { EachBefore book.now (λ before. result.items
+        ≡ live_writes (book_behind before (part_first book.now count)) inverter) }
+{
+    let mut live = copied(writes_before(book, inverter));
+    for place in 0..count {
+        live = live_after(book, place, inverter, &live);
     }
     live
 }
 
+/// Of these writes those that are not past at the moment.
+fn still_on(rules: &Rules, now: u64, live: &LiveWrites) -> LiveWrites
+    ensures { result.items ≡ filter (λ write. nat_le now (last_moment rules.now write.at)) live.now.items }
+{
+    let mut on = LiveWrites::new();
+    for write in live.as_slice() {
+        if is_on(write, rules, now) {
+            on.push(*write);
+        }
+    }
+    on
+}
+
+/// The writes of the inverter that are live at a moment from the last of so many entries of the book on.
+pub fn live_among(book: &Book, count: usize, now: u64, inverter: u8) -> LiveWrites
+    requires book { IsBookPart book.now }
+    requires of_site { inverter < inverters book.now.site }
+    requires within { count ≤ length book.now.entries }
+    requires later { last_moment_of (part_first book.now count) ≤ now }
+    ensures { EachBefore book.now (λ before. result.items
+        ≡ rule.live book.now.site.rules (before ++ take count book.now.entries) now inverter) }
+{
+    still_on(&book.rules(), now, &live_first(book, count, inverter))
+}
+
 /// The writes of the inverter that are live at a moment from the last of the book on.
 pub fn live_writes(book: &Book, now: u64, inverter: u8) -> LiveWrites
-    requires book { IsBook book.now }
-    requires later { now_of book.now ≤ now }
-    ensures { result.items ≡ rule.live book.now.site.rules book.now.entries now inverter }
+    requires book { IsBookPart book.now }
+    requires of_site { inverter < inverters book.now.site }
+    requires later { last_moment_of book.now ≤ now }
+    ensures { EachBook book.now (λ whole. result.items
+        ≡ rule.live whole.site.rules whole.entries now inverter) }
 {
-    live_among(&book.rules(), book.entries(), now, inverter)
+    live_among(book, book.entries().len(), now, inverter)
 }
 
 /// The writes that a read leaves which showed this raw percentage.

@@ -6,26 +6,29 @@ ghost use Rattle.plant_book.specs.Reserved as sums;
 ghost use Rattle.plant_book.specs.Requests as requests;
 ghost use Rattle.plant_book.specs.Writes.{live, is_numbered};
 ghost use Rattle.plant_book.specs.Answer as rule;
-ghost use Rattle.plant_book.specs.Answered.{IsBook, IsNext};
+ghost use Rattle.plant_book.specs.Answered.{IsNext};
+ghost use Rattle.plant_book.specs.Part.{begin_of, last_moment_of, calls_of};
+ghost use Rattle.plant_book.specs.Carry.{IsBookPart, EachBook};
 
+use crate::before::stop_before;
 use crate::book::{Book, Entry};
 use crate::call::{Call, LIVE_MAX, REQUESTS_MAX, Read, Reply, Write};
 use crate::caps::{cap_plain, ceiling_with};
+use crate::carry::CALLS_MAX;
 use crate::live::{LiveWrites, is_numbered, left_by, live_writes};
 use crate::policy::target_at;
 use crate::requests::{link_number, pending_read, requests};
 use crate::reserved::{covering, reserved_at, total_at};
 
-/// The reply to a call that is entered behind a book, computed from the whole list.
+/// The reply to a call that is entered behind a book of a life, computed from the whole list.
 pub fn answer(book: &Book, call: &Call) -> Reply
-    requires book { IsBook book.now }
-    requires next { IsNext book.now.site book.now.start book.now.entries call.now }
-    ensures { result ≡ rule.reply_to book.now call.now }
+    requires book { IsBookPart book.now }
+    requires next { IsNext book.now.site (begin_of book.now) book.now.entries call.now }
+    requires calls { calls_of book.now < CALLS_MAX }
+    ensures { EachBook book.now (λ whole. result ≡ rule.reply_to whole call.now) }
 {
     match *call {
-        Call::Link { inverter, .. } => Reply::Linked(
-            link_number(book.entries(), inverter) as u32 + 1,
-        ),
+        Call::Link { inverter, .. } => Reply::Linked(link_number(book, inverter) as u32 + 1),
         Call::Ask { at, inverter, raw } => reply_to_ask(book, at, inverter, raw),
         Call::Read { at, inverter } => reply_to_read(book, at, inverter),
         Call::Saw {
@@ -49,16 +52,16 @@ pub fn answer(book: &Book, call: &Call) -> Reply
 /// The reply to an Ask: a link with requests left is wanted.
 #[tactic(auto, unfolding(crate::specs::Answer::reply_to_ask))]
 fn reply_to_ask(book: &Book, now: u64, inverter: u8, raw: u16) -> Reply
-    requires book { IsBook book.now }
-    requires later { sums.now_of book.now ≤ now }
+    requires book { IsBookPart book.now }
+    requires later { last_moment_of book.now ≤ now }
     requires of_site { inverter < inverters book.now.site }
-    ensures { result ≡ rule.reply_to_ask book.now now inverter raw }
+    ensures { EachBook book.now (λ whole. result ≡ rule.reply_to_ask whole now inverter raw) }
 {
-    let link = link_number(book.entries(), inverter);
+    let link = link_number(book, inverter);
     if link == 0 {
         return Reply::Unlinked;
     }
-    let count = requests(book.entries(), inverter);
+    let count = requests(book, inverter);
     if count >= usize::from(REQUESTS_MAX) {
         return Reply::Spent;
     }
@@ -75,11 +78,13 @@ fn reply_to_ask(book: &Book, now: u64, inverter: u8, raw: u16) -> Reply
 /// The reply to an Ask on a link with requests left: the policy has to allow it, and the silence to be over.
 #[tactic(auto, unfolding(crate::specs::Answer::reply_by_policy))]
 fn reply_by_policy(book: &Book, write: &Write) -> Reply
-    requires book { IsBook book.now }
-    requires later { sums.now_of book.now ≤ write.now.at }
+    requires book { IsBookPart book.now }
+    requires later { last_moment_of book.now ≤ write.now.at }
     requires of_site { write.now.inverter < inverters book.now.site }
-    requires write { write.now ≡ rule.write_at book.now write.now.at write.now.inverter write.now.raw }
-    ensures { result ≡ rule.reply_by_policy book.now write.now.at write.now.inverter write.now.raw }
+    requires write { EachBook book.now (λ whole.
+        write.now ≡ rule.write_at whole write.now.at write.now.inverter write.now.raw) }
+    ensures { EachBook book.now (λ whole.
+        result ≡ rule.reply_by_policy whole write.now.at write.now.inverter write.now.raw) }
 {
     let full = book.full(write.inverter);
     if write.raw > full {
@@ -99,11 +104,13 @@ fn reply_by_policy(book: &Book, write: &Write) -> Reply
 /// The reply to an Ask that the policy allows: unreserved watts and room for one more live write are wanted.
 #[tactic(auto, unfolding(crate::specs::Answer::reply_by_watts, crate::specs::Reserved::unreserved_at))]
 fn reply_by_watts(book: &Book, write: &Write) -> Reply
-    requires book { IsBook book.now }
-    requires later { sums.now_of book.now ≤ write.now.at }
+    requires book { IsBookPart book.now }
+    requires later { last_moment_of book.now ≤ write.now.at }
     requires of_site { write.now.inverter < inverters book.now.site }
-    requires write { write.now ≡ rule.write_at book.now write.now.at write.now.inverter write.now.raw }
-    ensures { result ≡ rule.reply_by_watts book.now write.now.at write.now.inverter write.now.raw }
+    requires write { EachBook book.now (λ whole.
+        write.now ≡ rule.write_at whole write.now.at write.now.inverter write.now.raw) }
+    ensures { EachBook book.now (λ whole.
+        result ≡ rule.reply_by_watts whole write.now.at write.now.inverter write.now.raw) }
 {
     let unreserved = cap_plain(book).saturating_sub(total_at(book, write.at));
     let reserved = reserved_at(book, write.at, write.inverter);
@@ -119,14 +126,15 @@ fn reply_by_watts(book: &Book, write: &Write) -> Reply
 /// The reply to a Read: a link with requests left is wanted.
 #[tactic(auto, unfolding(crate::specs::Answer::reply_to_read))]
 fn reply_to_read(book: &Book, now: u64, inverter: u8) -> Reply
-    requires book { IsBook book.now }
-    ensures { result ≡ rule.reply_to_read book.now now inverter }
+    requires book { IsBookPart book.now }
+    requires of_site { inverter < inverters book.now.site }
+    ensures { EachBook book.now (λ whole. result ≡ rule.reply_to_read whole now inverter) }
 {
-    let link = link_number(book.entries(), inverter);
+    let link = link_number(book, inverter);
     if link == 0 {
         return Reply::Unlinked;
     }
-    let count = requests(book.entries(), inverter);
+    let count = requests(book, inverter);
     if count >= usize::from(REQUESTS_MAX) {
         return Reply::Spent;
     }
@@ -141,12 +149,12 @@ fn reply_to_read(book: &Book, now: u64, inverter: u8) -> Reply
 /// The reply to a Saw: a pending read of this number is wanted.
 #[tactic(auto, unfolding(crate::specs::Answer::reply_to_saw))]
 fn reply_to_saw(book: &Book, now: u64, inverter: u8, number: u16, raw: u16) -> Reply
-    requires book { IsBook book.now }
-    requires later { sums.now_of book.now ≤ now }
+    requires book { IsBookPart book.now }
+    requires later { last_moment_of book.now ≤ now }
     requires of_site { inverter < inverters book.now.site }
-    ensures { result ≡ rule.reply_to_saw book.now now inverter number raw }
+    ensures { EachBook book.now (λ whole. result ≡ rule.reply_to_saw whole now inverter number raw) }
 {
-    let pending = pending_read(book.entries(), inverter);
+    let pending = pending_read(book, inverter);
     if !is_pending(&pending, number) {
         return Reply::NoRead;
     }
@@ -199,9 +207,10 @@ fn has_raw(writes: &[Write], raw: u16) -> bool
 /// The reply to a Back: a live write of these numbers is wanted.
 #[tactic(auto, unfolding(crate::specs::Answer::reply_to_back))]
 fn reply_to_back(book: &Book, now: u64, inverter: u8, link: u32, number: u16) -> Reply
-    requires book { IsBook book.now }
-    requires later { sums.now_of book.now ≤ now }
-    ensures { result ≡ rule.reply_to_back book.now now inverter link number }
+    requires book { IsBookPart book.now }
+    requires later { last_moment_of book.now ≤ now }
+    requires of_site { inverter < inverters book.now.site }
+    ensures { EachBook book.now (λ whole. result ≡ rule.reply_to_back whole now inverter link number) }
 {
     let live = live_writes(book, now, inverter);
     if has_numbers(live.as_slice(), inverter, link, number) {
@@ -223,9 +232,9 @@ fn has_numbers(writes: &[Write], inverter: u8, link: u32, number: u16) -> bool
 /// The reply to a Cap: the floors have to fit under it, and it may not be above the site's.
 #[tactic(auto, unfolding(crate::specs::Answer::reply_to_cap))]
 fn reply_to_cap(book: &Book, now: u64, mw: u64) -> Reply
-    requires book { IsBook book.now }
-    requires later { sums.now_of book.now ≤ now }
-    ensures { result ≡ rule.reply_to_cap book.now now mw }
+    requires book { IsBookPart book.now }
+    requires later { last_moment_of book.now ≤ now }
+    ensures { EachBook book.now (λ whole. result ≡ rule.reply_to_cap whole now mw) }
 {
     let least = book.floors();
     let most = book.site_cap();
@@ -240,9 +249,9 @@ fn reply_to_cap(book: &Book, now: u64, mw: u64) -> Reply
 
 /// What is reserved for the inverter at the last moment of the book, in mW.
 pub fn reserved_plain(book: &Book, inverter: u8) -> u64
-    requires book { IsBook book.now }
+    requires book { IsBookPart book.now }
     requires of_site { inverter < inverters book.now.site }
-    ensures watts { result ≡ sums.reserved book.now inverter }
+    ensures watts { EachBook book.now (λ whole. result ≡ sums.reserved whole inverter) }
     ensures below { result ≤ 65535 * 10 ^ 12 }
 {
     reserved_at(book, book.latest(), inverter)
@@ -250,8 +259,8 @@ pub fn reserved_plain(book: &Book, inverter: u8) -> u64
 
 /// What is reserved in all at the last moment of the book, in mW.
 pub fn total_plain(book: &Book) -> u64
-    requires { IsBook book.now }
-    ensures { result ≡ sums.total book.now }
+    requires { IsBookPart book.now }
+    ensures { EachBook book.now (λ whole. result ≡ sums.total whole) }
 {
     total_at(book, book.latest())
 }
@@ -259,9 +268,9 @@ pub fn total_plain(book: &Book) -> u64
 /// The raw percentage that the inverter may aim at, at the last moment of the book.
 #[tactic(auto, unfolding(crate::specs::Answer::goal_raw, crate::specs::Reserved::unreserved_at))]
 pub fn goal_plain(book: &Book, inverter: u8) -> u16
-    requires book { IsBook book.now }
+    requires book { IsBookPart book.now }
     requires of_site { inverter < inverters book.now.site }
-    ensures { result ≡ rule.goal_raw book.now inverter }
+    ensures { EachBook book.now (λ whole. result ≡ rule.goal_raw whole inverter) }
 {
     let now = book.latest();
     let unreserved = cap_plain(book).saturating_sub(total_at(book, now));
@@ -269,12 +278,19 @@ pub fn goal_plain(book: &Book, inverter: u8) -> u16
     book.raw_at_most(inverter, target_at(book, now, inverter).min(most))
 }
 
-/// Whether a Stop stands in the book.
+/// Whether a Stop stands in the book or before it.
 #[tactic(auto, unfolding(crate::specs::Answer::is_stopped))]
 pub fn is_stopped(book: &Book) -> bool
-    ensures { result ≡ rule.is_stopped book.now }
+    ensures { EachBook book.now (λ whole. result ≡ rule.is_stopped whole) }
 {
-    book.entries().iter().any(is_stop)
+    stop_before(book) || has_stop(book.entries())
+}
+
+/// Whether one of the entries is a Stop.
+fn has_stop(entries: &[Entry]) -> bool
+    ensures { result ≡ list_any (λ entry. rule.stops entry.call) entries.now }
+{
+    entries.iter().any(is_stop)
 }
 
 /// Whether the entry is a Stop.

@@ -1,19 +1,24 @@
 //! A book, and the account of each inverter.
-ghost use Rattle.std.specs.Prelude.{◌≡◌, ℕ, ◌<◌, ◌≤◌, ◌^◌, ◌||◌, if◌then◌else◌, [], ◌∷◌, ◌++◌, length, map, Some, None, IfOk, IfSome, slice_get, slice_set, slice_index_or};
+ghost use Rattle.std.specs.Prelude.{◌≡◌, ℕ, ◌<◌, ◌≤◌, ◌^◌, ◌||◌, ◌⊎◌, if◌then◌else◌, [], ◌∷◌, ◌++◌, length, map, Some, None, IfOk, IfErr, IfSome, OnOk, OnErr, slice_get, slice_set, slice_index_or};
 ghost use Rattle.plant_book.specs.Site.{inverters, floors};
 ghost use Rattle.plant_book.specs.Caps.{sets_cap, cap_by, cap_of};
 ghost use Rattle.plant_book.specs.Calls.{moment, named};
 ghost use Rattle.plant_book.specs.Answer.{silent_until, stops, is_stopped};
-ghost use Rattle.plant_book.specs.Answered.{IsBook, IsOpenable, IsNext, IsAnswer, with_entries};
+ghost use Rattle.plant_book.specs.Answered.{IsOpenable, IsNext, IsAnswer};
+ghost use Rattle.plant_book.specs.Part.{begin_of, calls_of, book_behind};
+ghost use Rattle.plant_book.specs.Carry.{IsBookPart, EachBefore, EachBook};
 ghost use Rattle.plant_ledger.specs.declared.account.Account.{Account as Kept};
 ghost use Rattle.plant_ledger.specs.Account.{IsAccount, HasRoom, first_account, after_call};
-ghost use Rattle.plant_ledger.specs.Ledger.{IsUnit, account_at};
+ghost use Rattle.plant_ledger.specs.Ledger.{IsUnit, IsAtLast, account_at};
+ghost use Rattle.plant_ledger.specs.Plant.{with_one, Rolls, IsFullLife};
 
 use crate::account::Account;
+use crate::rolling::{RollFault, next_book};
 use limiter_num::{NoMemory, Rules};
-use plant_book::{Book, Call, Entry, MOMENT_MAX, Policy, Reply, Site, Unit};
+use plant_book::{Book, CALLS_MAX, Call, Entry, MOMENT_MAX, Policy, Reply, Site, Unit};
 use std::alloc::Global;
 use std::marker::Model;
+use std::mem;
 
 /// A book with the account of each inverter at a moment from its last one on, so that no reply walks the entries.
 #[derive(Debug, Drop)]
@@ -26,13 +31,13 @@ pub struct Ledger {
 }
 
 impl Model for Ledger {
-    ghost use Rattle.plant_ledger.specs.Ledger.{LedgerRecord, IsLedger};
+    ghost use Rattle.plant_ledger.specs.Ledger.{LedgerRecord, IsLedgerOf};
 
     ghost Value = { LedgerRecord };
 
     ghost view = { λ l. record { book = l.book; at = l.moment } };
 
-    ghost invariant = { λ l. IsLedger l.book l.moment l.accounts.items l.cap l.stopped };
+    ghost invariant = { λ l. IsLedgerOf l.book l.moment l.accounts.items l.cap l.stopped };
 }
 
 impl Ledger {
@@ -41,13 +46,13 @@ impl Ledger {
         requires openable { IsOpenable site }
         requires start { start ≤ MOMENT_MAX }
         ensures { IfOk result (λ ledger. ledger ≡ record {
-          book = record { site = site; start = start; entries = [] };
+          book = record { site = site; start = start; carry = None; entries = [] };
           at = start;
         }) }
     {
         let accounts = first_accounts(alloc, &site.units)?;
         let cap = site.cap;
-        let book = Book::new(alloc, site, start)?;
+        let book = Book::new(alloc, site, start, None)?;
         Ok(Ledger {
             book,
             moment: start,
@@ -71,13 +76,12 @@ impl Ledger {
     /// Writes one more entry of this moment at the end, and keeps the accounts.
     pub fn enter(&mut self, entry: Entry)
         requires room { length self.old.book.entries < self.old.book.site.room }
-        requires next { IsNext self.old.book.site self.old.book.start self.old.book.entries entry.call }
-        requires answer { IsAnswer self.old.book self.old.book.entries entry }
+        requires life { calls_of self.old.book < CALLS_MAX }
+        requires next { IsNext self.old.book.site (begin_of self.old.book) self.old.book.entries entry.call }
+        requires answer { EachBefore self.old.book
+            (λ before. IsAnswer (book_behind before self.old.book) (before ++ self.old.book.entries) entry) }
         requires now { moment entry.call ≡ self.old.at }
-        ensures { self.new ≡ record {
-          book = with_entries self.old.book (self.old.book.entries ++ entry ∷ []);
-          at = self.old.at;
-        } }
+        ensures { self.new ≡ record { book = with_one self.old.book entry; at = self.old.at } }
     {
         let rules = rules_of(&self.book);
         follow(&mut self.accounts, &rules, &entry);
@@ -86,10 +90,28 @@ impl Ledger {
         self.book.push(entry);
     }
 
+    /// Ends the book, hands it out, and goes on with an empty one that begins with what the life leaves. After a
+    /// refusal all is as before.
+    pub fn roll(&mut self, alloc: Global) -> Result<Book, RollFault>
+        requires { IsAtLast self.old }
+        ensures ended { IfOk result (λ ended. ended ≡ self.old.book) }
+        ensures lives { OnOk result (EachBefore self.old.book
+            (λ before. Rolls before self.old.book self.new.book)) }
+        ensures unfilled { OnOk result (¬ IsFullLife self.old.book) }
+        ensures refused { IfErr result (λ fault.
+            (IsFullLife self.old.book × (fault ≡ RollFault.LifeFull (calls_of self.old.book)))
+            ⊎ ((¬ IsFullLife self.old.book) × (fault ≡ RollFault.NoMemory))) }
+        ensures unchanged { OnErr result (self.new ≡ self.old) }
+        ensures kept { IsAtLast self.new }
+    {
+        let next = next_book(alloc, &self.book)?;
+        Ok(mem::replace(&mut self.book, next))
+    }
+
     /// The book.
     pub fn book(&self) -> &Book
         ensures book { result.now ≡ self.now.book }
-        ensures kept { IsBook self.now.book }
+        ensures kept { IsBookPart self.now.book }
     {
         &self.book
     }
@@ -97,14 +119,14 @@ impl Ledger {
     /// How many inverters the site has.
     pub fn inverters(&self) -> u8
         ensures count { result ≡ inverters self.now.book.site }
-        ensures kept { IsBook self.now.book }
+        ensures of_life { IsBookPart self.now.book }
     {
         self.accounts.len() as u8
     }
 
     /// The last moment at which earlier lives may still act, in ms.
     pub fn silent_until(&self) -> u64
-        ensures { result ≡ silent_until self.now.book }
+        ensures { EachBook self.now.book (λ whole. result ≡ silent_until whole) }
     {
         let book = &self.book;
         book.start + rules_of(book).reach()
@@ -119,7 +141,7 @@ impl Ledger {
 
     /// The cap in force, in mW.
     pub fn cap(&self) -> u64
-        ensures cap { result ≡ cap_of self.now.book }
+        ensures cap { EachBook self.now.book (λ whole. result ≡ cap_of whole) }
         ensures high { result ≤ 10 ^ 14 }
     {
         self.cap
@@ -168,15 +190,15 @@ impl Ledger {
     /// The account of the inverter.
     pub fn account(&self, inverter: u8) -> &Account
         requires { inverter < inverters self.now.book.site }
-        ensures account { IsAccount self.now.book self.now.at inverter result.now }
-        ensures links { result.now.link < 4294967295 }
+        ensures account { EachBook self.now.book (λ whole. IsAccount whole self.now.at inverter result.now) }
+        ensures links { calls_of self.now.book < CALLS_MAX → result.now.link < 4294967295 }
     {
         &self.accounts[usize::from(inverter)]
     }
 
     /// Whether a Stop stands in the book.
     pub fn is_stopped(&self) -> bool
-        ensures { result ≡ is_stopped self.now.book }
+        ensures { EachBook self.now.book (λ whole. result ≡ is_stopped whole) }
     {
         self.stopped
     }

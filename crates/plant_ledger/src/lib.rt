@@ -6,16 +6,19 @@
 #![tactic(auto)]
 
 mod account;
+mod entering;
 mod ledger;
 mod opening;
 mod plant;
 mod replies;
 mod reserved;
+mod rolling;
 mod shares;
 mod ticket;
 
 pub use opening::OpenFault;
 pub use plant::{BookFull, Goal, Outcome, Plant};
+pub use rolling::RollFault;
 pub use ticket::Ticket;
 
 #[cfg(test)]

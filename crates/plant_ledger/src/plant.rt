@@ -1,24 +1,26 @@
-ghost use Rattle.std.specs.Prelude.{◌≡◌, ◌⊎◌, ◌<◌, ◌≤◌, ◌↔◌, List, [], length, Some, None, IsOk, IsErr, IfOk, IfErr, IfSome, OnOk, OnErr, slice_get};
+ghost use Rattle.std.specs.Prelude.{◌≡◌, ◌⊎◌, ◌<◌, ◌≤◌, ◌↔◌, List, [], length, Some, None, IsOk, IsErr, IfOk, IfErr, IfSome, OnOk, OnErr, MatchOption, slice_get};
 ghost use Rattle.plant_book.specs.Site.{inverters};
 ghost use Rattle.plant_book.specs.Calls.{moment, named};
 ghost use Rattle.plant_book.specs.Answer.{goal_raw, is_stopped};
 ghost use Rattle.plant_book.specs.Reserved as sums;
 ghost use Rattle.plant_book.specs.Caps.{cap_of};
 ghost use Rattle.plant_book.specs.Ceiling.{ceiling};
-ghost use Rattle.plant_book.specs.Covered.{CoversHeld, IsUnderCeiling, IsBackUnderCap, TellsCap};
-ghost use Rattle.plant_book.specs.Answered.{IsBook, IsInRange};
+ghost use Rattle.plant_book.specs.Covered.{CoversHeld, IsUnderCeiling, IsBackUnderCap};
+ghost use Rattle.plant_book.specs.Answered.{IsInRange};
+ghost use Rattle.plant_book.specs.Part.{last_moment_of, calls_of};
+ghost use Rattle.plant_book.specs.Carry.{EachBefore, EachBook};
 ghost use Rattle.plant_book.specs.Tight.{IsTight};
 ghost use Rattle.plant_ledger.specs.Opening.{open_fault, ticket_for};
 ghost use Rattle.plant_ledger.specs.Release.{back_of};
-ghost use Rattle.plant_ledger.specs.Plant.{entry_of, entered, right_reply, IsSafeLife, LeavesReservations};
+ghost use Rattle.plant_ledger.specs.Plant.{IsKept, entered, IsSafeLife, GoesOn, Rolls, IsFullLife};
 
+use crate::entering::enter;
 use crate::ledger::Ledger;
 use crate::opening::{OpenFault, refuse};
+use crate::rolling::RollFault;
 use crate::ticket::{Ticket, ticket_with};
 use limiter_num::NoMemory;
-#[cfg(test)]
-use plant_book::Book;
-use plant_book::{Call, Entry, MOMENT_MAX, Reply, Site, Write, ceiling_plain};
+use plant_book::{Book, Call, Carry, Entry, MOMENT_MAX, Reply, Site, Write, ceiling_plain};
 use std::alloc::Global;
 use std::marker::Model;
 
@@ -49,17 +51,17 @@ pub struct Goal {
     pub stop: bool,
 }
 
-/// The ledger of one plant. It keeps the book, and beside it what the replies go by.
+/// The ledger of one plant. It keeps the last book of its life, and beside it what the replies go by.
 #[derive(Debug, Drop)]
 pub struct Plant {
     ledger: Ledger,
 }
 
 impl Model for Plant {
-    ghost use Rattle.plant_book.specs.Book.{BookRecord};
+    ghost use Rattle.plant_book.specs.Part.{PartRecord};
     ghost use Rattle.plant_ledger.specs.Ledger.{IsAtLast};
 
-    ghost Value = { BookRecord };
+    ghost Value = { PartRecord };
 
     ghost view = { λ p. p.ledger.book };
 
@@ -70,14 +72,17 @@ impl Plant {
     /// Opens the book of a site at a moment in ms, with all memory that the book will need.
     pub fn open(alloc: Global, site: Site, start: u64) -> Result<Plant, OpenFault>
         requires start { start ≤ MOMENT_MAX }
-        ensures opened { IfOk result (λ plant. plant ≡ record { site = site; start = start; entries = [] }) }
+        ensures opened { IfOk result
+            (λ plant. plant ≡ record { site = site; start = start; carry = None; entries = [] }) }
         ensures openable { OnOk result (open_fault site ≡ None) }
-        ensures kept { IfOk result (λ plant. IsBook plant) }
-        ensures capped { IfOk result (λ plant. IsUnderCeiling plant) }
-        ensures back { IfOk result (λ plant. IsBackUnderCap plant) }
-        ensures covered { IfOk result (λ plant. CoversHeld plant) }
-        ensures safe { IfOk result (λ plant. IsSafeLife plant) }
-        ensures tight { IfOk result (λ plant. IsTight plant) }
+        ensures kept { IfOk result (λ plant. IsKept plant) }
+
+        // Of the life that the book begins.
+        ensures capped { IfOk result (λ plant. EachBook plant IsUnderCeiling) }
+        ensures back { IfOk result (λ plant. EachBook plant IsBackUnderCap) }
+        ensures covered { IfOk result (λ plant. EachBook plant CoversHeld) }
+        ensures safe { IfOk result (λ plant. EachBook plant IsSafeLife) }
+        ensures tight { IfOk result (λ plant. EachBook plant IsTight) }
 
         // Refused by the first cause, and for want of memory only where no cause stands.
         ensures refused { IfErr result (λ fault. open_fault site ≡ Some fault
@@ -99,66 +104,42 @@ impl Plant {
         requires in_range { IsInRange call }
 
         ensures entered { IfOk result (λ outcome. self.new ≡ entered self.old call outcome.reply) }
-        ensures reply { IfOk result (λ outcome. outcome.reply ≡ right_reply self.old call) }
         ensures ticket { IfOk result (λ outcome. outcome.ticket ≡ ticket_for outcome.reply) }
 
-        // A write stays reserved until it is given back, freed or past, and is gone at that very call.
-        ensures reserved { IfOk result (λ outcome.
-            LeavesReservations self.old (entry_of self.old call outcome.reply) self.new) }
+        // Of each life whose last book this is: the reply is the one that the joined book asks for, and the life
+        // goes on.
+        ensures lives { IfOk result (λ outcome. EachBefore self.old
+            (λ before. GoesOn before self.old call outcome.reply self.new)) }
 
         // Full exactly where the book has as many calls as its room.
         ensures room { IsOk result ↔ (length self.old.entries < self.old.site.room) }
         ensures full { IfErr result (λ full. (full.calls ≡ length self.old.entries)
             × (full.calls ≡ self.old.site.room) × (self.new ≡ self.old)) }
 
-        // Only a Cap that is answered so changes the cap, and the reply tells the ceiling right after it.
-        ensures told { IfOk result (λ outcome.
-            TellsCap self.old (entry_of self.old call outcome.reply) self.new) }
-
-        // The book stays one of right replies, and what is reserved in all stays under the ceiling: the site's cap
-        // through the silence, and within reach of a lowering what was reserved right after it. Past that it is
+        // Of each life whose last book is the new one: what is reserved in all stays under the ceiling, the site's
+        // cap through the silence, and within reach of a lowering what was reserved right after it. Past that it is
         // back under the cap.
-        ensures kept { IsBook self.new }
-        ensures capped { IsUnderCeiling self.new }
-        ensures back { IsBackUnderCap self.new }
+        ensures kept { IsKept self.new }
+        ensures capped { EachBook self.new IsUnderCeiling }
+        ensures back { EachBook self.new IsBackUnderCap }
 
         // Behind the silence, and in the first life of a plant, what an inverter may hold is reserved for it.
-        ensures covered { CoversHeld self.new }
+        ensures covered { EachBook self.new CoversHeld }
 
-        // Whatever past that fits the life followed, and whatever inverters did that follow the timed device.
-        // And no
+        // Whatever past that fits the life followed, and whatever inverters did that follow the timed device. And no
         // ledger that knows only the calls could free a write sooner.
-        ensures safe { IsSafeLife self.new }
-        ensures tight { IsTight self.new }
+        ensures safe { EachBook self.new IsSafeLife }
+        ensures tight { EachBook self.new IsTight }
     {
         let calls = self.calls();
         if calls >= self.site().room {
             return Err(BookFull { calls });
         }
-        let reply = self.enter(call);
+        let reply = enter(&mut self.ledger, call);
         Ok(Outcome {
             reply,
             ticket: ticket_with(&reply),
         })
-    }
-
-    /// Enters a call into a book that has room for it.
-    fn enter(&mut self, call: Call) -> Reply
-        requires moment { moment call ≤ MOMENT_MAX }
-        requires of_site { IfSome (named call) (λ inverter. inverter < inverters self.old.site) }
-        requires in_range { IsInRange call }
-        requires room { length self.old.entries < self.old.site.room }
-        ensures entered { self.new ≡ entered self.old call result }
-        ensures reply { result ≡ right_reply self.old call }
-        ensures reserved { LeavesReservations self.old (entry_of self.old call result) self.new }
-        ensures told { TellsCap self.old (entry_of self.old call result) self.new }
-        ensures kept { IsBook self.new }
-    {
-        let call = call.at_moment(call.at().max(self.ledger.now()));
-        self.ledger.advance(call.at());
-        let reply = self.ledger.answer(&call);
-        self.ledger.enter(Entry { call, reply });
-        reply
     }
 
     /// Gives back a write that was not sent and never will be: the Back of the ticket's write. A full book
@@ -168,20 +149,17 @@ impl Plant {
         requires moment { at ≤ MOMENT_MAX }
         requires of_site { ticket.inverter < inverters self.old.site }
         ensures entered { IfOk result (λ reply. self.new ≡ entered self.old (back_of ticket at) reply) }
-        ensures reply { IfOk result (λ reply. reply ≡ right_reply self.old (back_of ticket at)) }
-        ensures reserved { IfOk result (λ reply.
-            LeavesReservations self.old (entry_of self.old (back_of ticket at) reply) self.new) }
+        ensures lives { IfOk result (λ reply. EachBefore self.old
+            (λ before. GoesOn before self.old (back_of ticket at) reply self.new)) }
         ensures room { IsOk result ↔ (length self.old.entries < self.old.site.room) }
         ensures full { IfErr result (λ refused. (refused.0.calls ≡ length self.old.entries)
             × (refused.0.calls ≡ self.old.site.room) × (refused.1 ≡ ticket) × (self.new ≡ self.old)) }
-        ensures told { IfOk result (λ reply.
-            TellsCap self.old (entry_of self.old (back_of ticket at) reply) self.new) }
-        ensures kept { IsBook self.new }
-        ensures capped { IsUnderCeiling self.new }
-        ensures back { IsBackUnderCap self.new }
-        ensures covered { CoversHeld self.new }
-        ensures safe { IsSafeLife self.new }
-        ensures tight { IsTight self.new }
+        ensures kept { IsKept self.new }
+        ensures capped { EachBook self.new IsUnderCeiling }
+        ensures back { EachBook self.new IsBackUnderCap }
+        ensures covered { EachBook self.new CoversHeld }
+        ensures safe { EachBook self.new IsSafeLife }
+        ensures tight { EachBook self.new IsTight }
     {
         let calls = self.calls();
         if calls >= self.site().room {
@@ -193,20 +171,53 @@ impl Plant {
             number,
             ..
         } = ticket.spend();
-        Ok(self.enter(Call::Back {
+        let back = Call::Back {
             at,
             inverter,
             link,
             number,
-        }))
+        };
+        Ok(enter(&mut self.ledger, back))
+    }
+
+    /// Ends the book, hands it out, and goes on with an empty one of the same room that begins with what the life
+    /// leaves. So a long life needn't end at a full book. After a refusal all is as before.
+    pub fn roll(&mut self, alloc: Global) -> Result<Book, RollFault>
+        ensures ended { IfOk result (λ ended. ended ≡ self.old) }
+
+        // Of each life whose last book this was: the next book begins with what it leaves.
+        ensures lives { OnOk result (EachBefore self.old (λ before. Rolls before self.old self.new)) }
+
+        // Full exactly where the calls of the life and the room are together more than a life may have.
+        ensures unfilled { OnOk result (¬ IsFullLife self.old) }
+        ensures refused { IfErr result (λ fault.
+            (IsFullLife self.old × (fault ≡ RollFault.LifeFull (calls_of self.old)))
+            ⊎ ((¬ IsFullLife self.old) × (fault ≡ RollFault.NoMemory))) }
+        ensures unchanged { OnErr result (self.new ≡ self.old) }
+        ensures kept { IsKept self.new }
+        ensures capped { EachBook self.new IsUnderCeiling }
+        ensures back { EachBook self.new IsBackUnderCap }
+        ensures covered { EachBook self.new CoversHeld }
+        ensures safe { EachBook self.new IsSafeLife }
+        ensures tight { EachBook self.new IsTight }
+    {
+        self.ledger.roll(alloc)
+    }
+
+    /// What the books of the life before this one left, or nothing where it is the first.
+    pub fn carry(&self) -> Option<&Carry>
+        ensures { MatchOption result (self.now.carry ≡ None) (λ carry. self.now.carry ≡ Some carry.now) }
+    {
+        let book = self.ledger.book();
+        book.carry.as_ref()
     }
 
     /// What the inverter may aim at, at the last moment.
     pub fn goal(&self, inverter: u8) -> Goal
         requires { inverter < inverters self.now.site }
-        ensures raw { result.raw ≡ goal_raw self.now inverter }
-        ensures reserved { result.reserved ≡ sums.reserved self.now inverter }
-        ensures stop { result.stop ≡ is_stopped self.now }
+        ensures raw { EachBook self.now (λ whole. result.raw ≡ goal_raw whole inverter) }
+        ensures reserved { EachBook self.now (λ whole. result.reserved ≡ sums.reserved whole inverter) }
+        ensures stop { EachBook self.now (λ whole. result.stop ≡ is_stopped whole) }
     {
         Goal {
             raw: self.ledger.goal(inverter),
@@ -218,52 +229,53 @@ impl Plant {
     /// What is reserved for the inverter at the last moment, in mW.
     pub fn reserved(&self, inverter: u8) -> u64
         requires { inverter < inverters self.now.site }
-        ensures { result ≡ sums.reserved self.now inverter }
+        ensures { EachBook self.now (λ whole. result ≡ sums.reserved whole inverter) }
     {
         self.ledger.reserved(inverter)
     }
 
     /// What is reserved in all at the last moment, in mW.
     pub fn total(&self) -> u64
-        ensures { result ≡ sums.total self.now }
+        ensures { EachBook self.now (λ whole. result ≡ sums.total whole) }
     {
         self.ledger.total()
     }
 
     /// The cap in force, in mW: that of the last Cap answered CapSet, or the site's.
     pub fn cap(&self) -> u64
-        ensures { result ≡ cap_of self.now }
+        ensures { EachBook self.now (λ whole. result ≡ cap_of whole) }
     {
         self.ledger.cap()
     }
 
     /// What all limits together stay under at the last moment, in mW, also right behind a lowering of the cap.
     pub fn ceiling(&self) -> u64
-        ensures { result ≡ ceiling self.now }
+        ensures { EachBook self.now (λ whole. result ≡ ceiling whole) }
     {
         ceiling_plain(self.ledger.book())
     }
 
     /// What of the cap in force isn't reserved at the last moment, in mW: 0 where more than it is reserved.
     pub fn unreserved(&self) -> u64
-        ensures { result ≡ sums.unreserved self.now }
+        ensures { EachBook self.now (λ whole. result ≡ sums.unreserved whole) }
     {
         self.ledger.unreserved()
     }
 
-    /// The last moment: that of the last call, or the start where there is none, in ms.
+    /// The last moment of the life: that of its last call, or the start where there is none, in ms.
     pub fn latest(&self) -> u64
-        ensures moment { result ≡ sums.now_of self.now }
-        ensures kept { IsBook self.now }
+        ensures moment { result ≡ last_moment_of self.now }
+        ensures of_life { EachBook self.now (λ whole. result ≡ sums.now_of whole) }
+        ensures kept { IsKept self.now }
     {
         self.ledger.now()
     }
 
-    /// How many calls were entered.
+    /// How many calls were entered in the book.
     pub fn calls(&self) -> u32
         ensures calls { result ≡ length self.now.entries }
         ensures within { result ≤ self.now.site.room }
-        ensures kept { IsBook self.now }
+        ensures kept { IsKept self.now }
     {
         let book = self.ledger.book();
         book.entries.len() as u32
@@ -290,12 +302,12 @@ impl Plant {
     #[cfg(test)]
     pub(crate) fn book(&self) -> &Book
         ensures book { result.now ≡ self.now }
-        ensures kept { IsBook self.now }
+        ensures kept { IsKept self.now }
     {
         self.ledger.book()
     }
 
-    /// The moment at which the book begins, in ms.
+    /// The moment at which the life begins, in ms.
     pub fn start(&self) -> u64
         ensures { result ≡ self.now.start }
     {

@@ -3,12 +3,13 @@ ghost use Rattle.std.specs.Prelude.{◌≡◌, ◌<◌, IfSome, Some};
 ghost use Rattle.plant_book.specs.Calls.{moment, named};
 ghost use Rattle.plant_book.specs.Site.{inverters};
 ghost use Rattle.plant_book.specs.Writes.{live};
-ghost use Rattle.plant_book.specs.Reserved.{now_of};
+ghost use Rattle.plant_book.specs.Part.{last_moment_of, calls_of};
+ghost use Rattle.plant_book.specs.Carry.{EachBook};
 ghost use Rattle.plant_book.specs.Answer as rule;
 
 use crate::ledger::Ledger;
 use crate::reserved::covering;
-use plant_book::{Call, REQUESTS_MAX, Read, Reply, Unit, Write};
+use plant_book::{CALLS_MAX, Call, REQUESTS_MAX, Read, Reply, Unit, Write};
 use uncertain_writes::Live;
 
 impl Ledger {
@@ -16,7 +17,8 @@ impl Ledger {
     pub fn answer(&self, call: &Call) -> Reply
         requires now { moment call.now ≡ self.now.at }
         requires of_site { IfSome (named call.now) (λ inverter. inverter < inverters self.now.book.site) }
-        ensures { result ≡ rule.reply_to self.now.book call.now }
+        requires life { calls_of self.now.book < CALLS_MAX }
+        ensures { EachBook self.now.book (λ whole. result ≡ rule.reply_to whole call.now) }
     {
         match *call {
             Call::Link { inverter, .. } => Reply::Linked(self.account(inverter).link + 1),
@@ -44,8 +46,8 @@ impl Ledger {
     #[tactic(auto, unfolding(plant_book::specs::Answer::goal_raw))]
     pub fn goal(&self, inverter: u8) -> u16
         requires of_site { inverter < inverters self.now.book.site }
-        requires last { self.now.at ≡ now_of self.now.book }
-        ensures { result ≡ rule.goal_raw self.now.book inverter }
+        requires last { self.now.at ≡ last_moment_of self.now.book }
+        ensures { EachBook self.now.book (λ whole. result ≡ rule.goal_raw whole inverter) }
     {
         let most = self.reserved(inverter) + self.unreserved();
         let rating = &self.unit(inverter).rating;
@@ -56,7 +58,7 @@ impl Ledger {
     #[tactic(auto, unfolding(plant_book::specs::Answer::reply_to_ask))]
     fn reply_to_ask(&self, inverter: u8, raw: u16) -> Reply
         requires { inverter < inverters self.now.book.site }
-        ensures { result ≡ rule.reply_to_ask self.now.book self.now.at inverter raw }
+        ensures { EachBook self.now.book (λ whole. result ≡ rule.reply_to_ask whole self.now.at inverter raw) }
     {
         let account = self.account(inverter);
         if account.link == 0 {
@@ -79,8 +81,9 @@ impl Ledger {
     #[tactic(auto, unfolding(plant_book::specs::Answer::reply_by_policy))]
     fn reply_by_policy(&self, write: &Write) -> Reply
         requires of_site { write.now.inverter < inverters self.now.book.site }
-        requires write { write.now ≡ rule.write_at self.now.book self.now.at write.now.inverter write.now.raw }
-        ensures { result ≡ rule.reply_by_policy self.now.book self.now.at write.now.inverter write.now.raw }
+        requires write { EachBook self.now.book (λ whole.
+            write.now ≡ rule.write_at whole self.now.at write.now.inverter write.now.raw) }
+        ensures { EachBook self.now.book (λ whole. result ≡ rule.reply_by_policy whole self.now.at write.now.inverter write.now.raw) }
     {
         let rating = &self.unit(write.inverter).rating;
         let full = rating.full();
@@ -102,8 +105,9 @@ impl Ledger {
     #[tactic(auto, unfolding(plant_book::specs::Answer::reply_by_watts))]
     fn reply_by_watts(&self, write: &Write) -> Reply
         requires of_site { write.now.inverter < inverters self.now.book.site }
-        requires write { write.now ≡ rule.write_at self.now.book self.now.at write.now.inverter write.now.raw }
-        ensures { result ≡ rule.reply_by_watts self.now.book self.now.at write.now.inverter write.now.raw }
+        requires write { EachBook self.now.book (λ whole.
+            write.now ≡ rule.write_at whole self.now.at write.now.inverter write.now.raw) }
+        ensures { EachBook self.now.book (λ whole. result ≡ rule.reply_by_watts whole self.now.at write.now.inverter write.now.raw) }
     {
         let unreserved = self.unreserved();
         let reserved = self.reserved(write.inverter);
@@ -121,7 +125,7 @@ impl Ledger {
     #[tactic(auto, unfolding(plant_book::specs::Answer::reply_to_read))]
     fn reply_to_read(&self, inverter: u8) -> Reply
         requires { inverter < inverters self.now.book.site }
-        ensures { result ≡ rule.reply_to_read self.now.book self.now.at inverter }
+        ensures { EachBook self.now.book (λ whole. result ≡ rule.reply_to_read whole self.now.at inverter) }
     {
         let account = self.account(inverter);
         if account.link == 0 {
@@ -141,7 +145,7 @@ impl Ledger {
     /// The reply to a Saw: a pending read of this number is wanted.
     fn reply_to_saw(&self, inverter: u8, number: u16, raw: u16) -> Reply
         requires { inverter < inverters self.now.book.site }
-        ensures { result ≡ rule.reply_to_saw self.now.book self.now.at inverter number raw }
+        ensures { EachBook self.now.book (λ whole. result ≡ rule.reply_to_saw whole self.now.at inverter number raw) }
     {
         match self.account(inverter).pending {
             Some(read) if read.number == number => self.reply_to_sight(inverter, &read, raw),
@@ -152,8 +156,9 @@ impl Ledger {
     /// The reply to a Saw of the pending read: its raw percentage has to be the floor's or that of a live write.
     fn reply_to_sight(&self, inverter: u8, read: &Read, raw: u16) -> Reply
         requires { inverter < inverters self.now.book.site }
-        ensures { result ≡ rule.reply_to_sight self.now.book.site inverter (Some read.now) raw
-            (live self.now.book.site.rules self.now.book.entries self.now.at inverter) }
+        ensures { EachBook self.now.book (λ whole.
+            result ≡ rule.reply_to_sight whole.site inverter (Some read.now) raw
+            (live whole.site.rules whole.entries self.now.at inverter)) }
     {
         let live = &self.account(inverter).live;
         if !is_known(self.unit(inverter), live, raw) {
@@ -169,7 +174,7 @@ impl Ledger {
     /// The reply to a Back: a live write of these numbers is wanted.
     fn reply_to_back(&self, inverter: u8, link: u32, number: u16) -> Reply
         requires { inverter < inverters self.now.book.site }
-        ensures { result ≡ rule.reply_to_back self.now.book self.now.at inverter link number }
+        ensures { EachBook self.now.book (λ whole. result ≡ rule.reply_to_back whole self.now.at inverter link number) }
     {
         if self.account(inverter).live.holds(link, number) {
             Reply::Taken
@@ -181,7 +186,7 @@ impl Ledger {
     /// The reply to a Cap: the floors have to fit under it, and the site's cap to be no lower.
     #[tactic(auto, unfolding(plant_book::specs::Answer::reply_to_cap))]
     fn reply_to_cap(&self, mw: u64) -> Reply
-        ensures { result ≡ rule.reply_to_cap self.now.book self.now.at mw }
+        ensures { EachBook self.now.book (λ whole. result ≡ rule.reply_to_cap whole self.now.at mw) }
     {
         let least = self.floors();
         let most = self.site_cap();
@@ -196,7 +201,7 @@ impl Ledger {
 
     /// The ceiling right after this cap is set. Both are in mW.
     fn ceiling_with(&self, mw: u64) -> u64
-        ensures { result ≡ rule.ceiling_with self.now.book self.now.at mw }
+        ensures { EachBook self.now.book (λ whole. result ≡ rule.ceiling_with whole self.now.at mw) }
     {
         if self.now() <= self.silent_until() {
             return self.site_cap();

@@ -3,6 +3,7 @@ ghost use Rattle.std.specs.Prelude.{◌≡◌, ◌≤◌, ◌<◌, ◌*◌, ◌^
 ghost use Rattle.limiter_num.specs.Rating.{mw};
 ghost use Rattle.plant_book.specs.Site.{inverters};
 ghost use Rattle.plant_book.specs.Reserved as sums;
+ghost use Rattle.plant_book.specs.Carry.{EachBook};
 
 use crate::ledger::Ledger;
 use plant_book::Unit;
@@ -13,7 +14,7 @@ impl Ledger {
     #[tactic(auto, unfolding(plant_book::specs::Reserved::reserved_at))]
     pub fn reserved(&self, inverter: u8) -> u64
         requires of_site { inverter < inverters self.now.book.site }
-        ensures watts { result ≡ sums.reserved_at self.now.book self.now.at inverter }
+        ensures watts { EachBook self.now.book (λ whole. result ≡ sums.reserved_at whole self.now.at inverter) }
         ensures below { result ≤ 65535 * 10 ^ 12 }
     {
         covering(self.unit(inverter), &self.account(inverter).live)
@@ -21,7 +22,7 @@ impl Ledger {
 
     /// What is reserved in all, in mW.
     pub fn total(&self) -> u64
-        ensures { result ≡ sums.total_at self.now.book self.now.at }
+        ensures { EachBook self.now.book (λ whole. result ≡ sums.total_at whole self.now.at) }
     {
         let mut total = 0;
         for inverter in 0..self.inverters() {
@@ -33,7 +34,7 @@ impl Ledger {
     /// What of the cap isn't reserved, in mW.
     #[tactic(auto, unfolding(plant_book::specs::Reserved::unreserved_at))]
     pub fn unreserved(&self) -> u64
-        ensures watts { result ≡ sums.unreserved_at self.now.book self.now.at }
+        ensures watts { EachBook self.now.book (λ whole. result ≡ sums.unreserved_at whole self.now.at) }
         ensures below { result ≤ 10 ^ 14 }
     {
         self.cap().saturating_sub(self.total())

@@ -3,6 +3,7 @@ ghost use Rattle.std.specs.Prelude.{◌≡◌, ◌<◌, if◌then◌else◌};
 ghost use Rattle.limiter_num.specs.Rating.{mw, rated};
 ghost use Rattle.plant_book.specs.Site.{inverters};
 ghost use Rattle.plant_book.specs.Caps.{cap_of};
+ghost use Rattle.plant_book.specs.Carry.{IsBookPart, EachBook};
 ghost use Rattle.share_policy.specs.Claims.{IsFeasible};
 ghost use Rattle.plant_book.specs.Policy as rule;
 
@@ -17,7 +18,7 @@ impl Ledger {
     #[tactic(auto, unfolding(plant_book::specs::Policy::trusted))]
     fn claim(&self, inverter: u8) -> Claim
         requires { inverter < inverters self.now.book.site }
-        ensures { result ≡ rule.claim_of self.now.book inverter }
+        ensures { EachBook self.now.book (λ whole. result ≡ rule.claim_of whole inverter) }
     {
         let unit = self.unit(inverter);
         let account = self.account(inverter);
@@ -30,8 +31,9 @@ impl Ledger {
 
     /// The claims of all inverters in the order of their numbers.
     fn claims(&self) -> ArrayVec<Claim, INVERTERS_MAX>
-        ensures claims { result.items ≡ rule.claims self.now.book }
-        ensures feasible { IsFeasible (cap_of self.now.book) (rule.claims self.now.book) }
+        ensures claims { EachBook self.now.book (λ whole. result.items ≡ rule.claims whole) }
+        ensures feasible { EachBook self.now.book (λ whole. IsFeasible (cap_of whole) (rule.claims whole)) }
+        ensures of_life { IsBookPart self.now.book }
     {
         let mut claims = ArrayVec::new();
         for inverter in 0..self.inverters() {
@@ -44,7 +46,7 @@ impl Ledger {
     #[tactic(auto, unfolding(plant_book::specs::Policy::policy_target))]
     fn policy_target(&self, inverter: u8) -> u64
         requires { inverter < inverters self.now.book.site }
-        ensures { result ≡ rule.policy_target self.now.book inverter }
+        ensures { EachBook self.now.book (λ whole. result ≡ rule.policy_target whole inverter) }
     {
         let claim = self.claim(inverter);
         match self.policy() {
@@ -73,7 +75,9 @@ impl Ledger {
     /// The same of all inverters in the order of their numbers.
     fn fall_claims(&self) -> ArrayVec<Claim, INVERTERS_MAX>
         ensures claims { result.items ≡ rule.fall_claims self.now.book.site }
-        ensures feasible { IsFeasible (cap_of self.now.book) (rule.fall_claims self.now.book.site) }
+        ensures feasible { EachBook self.now.book
+            (λ whole. IsFeasible (cap_of whole) (rule.fall_claims whole.site)) }
+        ensures of_life { IsBookPart self.now.book }
     {
         let mut claims = ArrayVec::new();
         for inverter in 0..self.inverters() {
@@ -86,7 +90,7 @@ impl Ledger {
     #[tactic(auto, unfolding(plant_book::specs::Policy::fall_share))]
     fn fall_share(&self, inverter: u8) -> u64
         requires { inverter < inverters self.now.book.site }
-        ensures { result ≡ rule.fall_share self.now.book.site (cap_of self.now.book) inverter }
+        ensures { EachBook self.now.book (λ whole. result ≡ rule.fall_share whole.site (cap_of whole) inverter) }
     {
         let level = level(self.cap(), self.fall_claims().as_slice());
         share_policy::target(Policy::Fair, level, &self.fall_claim(inverter))
@@ -96,7 +100,7 @@ impl Ledger {
     #[tactic(auto, unfolding(plant_book::specs::Policy::target_at))]
     pub fn target(&self, inverter: u8) -> u64
         requires { inverter < inverters self.now.book.site }
-        ensures { result ≡ rule.target_at self.now.book self.now.at inverter }
+        ensures { EachBook self.now.book (λ whole. result ≡ rule.target_at whole self.now.at inverter) }
     {
         let target = self.policy_target(inverter);
         if self.total() > self.cap() {

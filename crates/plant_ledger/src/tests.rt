@@ -374,3 +374,4 @@ fn wishes_share_the_cap(rt: HostRuntime) -> Result<(), Fail> {
 
 mod caps;
 mod plain;
+mod rolls;

@@ -22,7 +22,7 @@ overflow_sub-result c =
     omega (arith, c.len.ensures, c.len-2.ensures, ap (length {A = writes.Write}) c.left_by-left.ensures, length-without (frees c.rules.result (Some c.args.read.now) c.args.raw) its)
 
 pub returns : goal.returns
-returns c =
+returns c before is =
     let a = c.args in
     let site = a.self.now.book.site in
     let its = c.account.result.now.live in
@@ -38,4 +38,4 @@ returns c =
     let known : rule.is_raw_of (floor_raw_at site a.inverter) a.raw its ≡ true =
     ap (λ (floor : ℕ). rule.is_raw_of floor a.raw its) c.unit.ensures.numbers.floor_raw ∙ sym c.is_known.ensures ∙ c.if-not-is_known.false in
     let alike : replies.Freed (c.len.result - c.len-2.result) c.covering.result ≡ rule.reply_to_sight site a.inverter (Some a.read.now) a.raw its = rw known (freed_alike _ _ _ _ count watts) in
-    alike ∙ ap (rule.reply_to_sight site a.inverter (Some a.read.now) a.raw) c.account.ensures.account.live
+    alike ∙ ap (rule.reply_to_sight site a.inverter (Some a.read.now) a.raw) (c.account.ensures.account before is).live

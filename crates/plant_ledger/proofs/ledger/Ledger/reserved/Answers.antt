@@ -8,10 +8,10 @@ use Rattle.plant_ledger.proofs.ledger.Ledger.reserved.Goals as goal
 
 pub returns-clause-watts : goal.returns-clause-watts
 unfolding sums.reserved_at
-returns-clause-watts c =
+returns-clause-watts c before is =
     let site = c.args.self.now.book.site in
     let unit = c.unit.result.now in
     let its = c.account.result.now.live in
     c.covering.ensures.watts
     ∙ sym (covering-is site c.args.inverter unit c.unit.ensures.unit its ∙ fold_max-from (mw unit.rating unit.floor) (map (λ (write : writes.Write). mw unit.rating write.raw) its))
-    ∙ ap (sums.covering site c.args.inverter) c.account.ensures.account.live
+    ∙ ap (sums.covering site c.args.inverter) (c.account.ensures.account before is).live

@@ -2,31 +2,31 @@ use Rattle.plant_ledger.proofs.Kept.{kept_capped, kept_back, kept_covered, kept_
 use Rattle.plant_ledger.proofs.plant.Plant.release.Goals as goal
 
 pub returns-then-calls-site-clause-capped : goal.returns-then-calls-site-clause-capped
-returns-then-calls-site-clause-capped c = kept_capped _ c.calls-calls.ensures.kept
+returns-then-calls-site-clause-capped c = kept_capped _
 
 pub returns-then-calls-site-clause-back : goal.returns-then-calls-site-clause-back
-returns-then-calls-site-clause-back c = kept_back _ c.calls-calls.ensures.kept
+returns-then-calls-site-clause-back c = kept_back _
 
 pub returns-then-calls-site-clause-covered : goal.returns-then-calls-site-clause-covered
 returns-then-calls-site-clause-covered c = kept_covered _
 
 pub returns-then-calls-site-clause-safe : goal.returns-then-calls-site-clause-safe
-returns-then-calls-site-clause-safe c = kept_safe _ c.calls-calls.ensures.kept
+returns-then-calls-site-clause-safe c = kept_safe _
 
 pub returns-then-calls-site-clause-tight : goal.returns-then-calls-site-clause-tight
-returns-then-calls-site-clause-tight c = kept_tight _ c.calls-calls.ensures.kept
+returns-then-calls-site-clause-tight c = kept_tight _
 
 pub returns-clause-capped : goal.returns-clause-capped
-returns-clause-capped c = kept_capped _ c.enter.ensures.kept
+returns-clause-capped c = kept_capped _
 
 pub returns-clause-back : goal.returns-clause-back
-returns-clause-back c = kept_back _ c.enter.ensures.kept
+returns-clause-back c = kept_back _
 
 pub returns-clause-covered : goal.returns-clause-covered
 returns-clause-covered c = kept_covered _
 
 pub returns-clause-safe : goal.returns-clause-safe
-returns-clause-safe c = kept_safe _ c.enter.ensures.kept
+returns-clause-safe c = kept_safe _
 
 pub returns-clause-tight : goal.returns-clause-tight
-returns-clause-tight c = kept_tight _ c.enter.ensures.kept
+returns-clause-tight c = kept_tight _

@@ -1,0 +1,8 @@
+use Rattle.std.proofs.Common.{refl}
+use Rattle.plant_book.specs.Requests.{pending_read}
+use Rattle.plant_book.specs.Sums.{last_that}
+use Rattle.plant_book.proofs.before.pending_before.Goals as goal
+
+pub returns-in-None : goal.returns-in-None
+unfolding pending_read last_that
+returns-in-None c before is = rw (c.in-None.ensures before is) refl
