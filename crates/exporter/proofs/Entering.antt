@@ -1,5 +1,5 @@
 -- Entering the calls of a script one by one.
-use Rattle.std.proofs.Common.{◌≡◌, ℕ, ◌+◌, ◌<◌, ◌≤◌, List, [], ◌∷◌, ◌++◌, length, get_or, take, drop, Some, refl, sym, ap, subst, ◌∙◌, append_assoc, add-one}
+use Rattle.std.proofs.Common.{◌≡◌, ℕ, ◌+◌, ◌<◌, ◌≤◌, List, [], ◌∷◌, ◌++◌, length, get_or, take, drop, Option, Some, None, refl, sym, ap, subst, ◌∙◌, append_assoc, add-one}
 use Rattle.std.proofs.lemmas.List.{map_push, take_more, append-nil}
 use Rattle.std.proofs.Math.Seq.{drop-cons}
 use Rattle.plant_book.specs.declared.call.Call.{Call}
@@ -10,7 +10,11 @@ use Rattle.plant_book.specs.Book.{BookRecord}
 use Rattle.plant_book.specs.Calls.{moment, entered}
 use Rattle.plant_book.specs.Answered.{IsBook}
 use Rattle.plant_book.proofs.Safe.{no_past}
-use Rattle.plant_ledger.specs.Plant.{IsSafeLife}
+use Rattle.plant_book.specs.Part.{CarryRecord, PartRecord, first_book, moment_carried}
+use Rattle.plant_book.specs.Carry.{EachBook}
+use Rattle.plant_book.proofs.Behind.{behind_nothing}
+use Rattle.plant_ledger.specs.Plant as ledger
+use Rattle.plant_ledger.specs.Plant.{IsKept, IsSafeLife}
 use Rattle.exporter.specs.declared.line.SiteLine as site_line
 use Rattle.exporter.specs.declared.script.Script.{Script}
 use Rattle.exporter.specs.Script.{last_moment, site_with}
@@ -27,9 +31,21 @@ enters_one old new call reply is later = record {
       ∙ ap (λ (c : Call). calls_in old.entries ++ c ∷ []) (entered_is old.start old.entries call later);
 }
 
+-- a call leaves the carry, and of the first book of a life it makes what it makes of the book
+pub first_entered : (old : PartRecord) (call : Call) (reply : Reply) → old.carry ≡ None
+    → first_book (ledger.entered old call reply) ≡ record (first_book old) { entries = old.entries ++ record { call = entered old.start old.entries call; reply = reply } ∷ [] }
+first_entered old call reply none =
+    ap (λ (carry : Option CarryRecord). record (first_book old) { entries = old.entries ++ record { call = entered (moment_carried old.start carry) old.entries call; reply = reply } ∷ [] }) none
+
 -- a book of right replies is safe at every moment, of a life that began with every inverter at its floor
 pub safe_book : (book : BookRecord) → IsBook book → IsSafeLife book → IsSafeBook book
 safe_book book kept safe = record { is_book = kept; safe = safe [] (no_past book kept) }
+
+-- the first book of a life that a plant keeps
+pub safe_first : (plant : PartRecord) → IsKept plant → EachBook plant IsSafeLife → plant.carry ≡ None → IsSafeBook (first_book plant)
+safe_first plant kept safe none =
+    let behind = behind_nothing plant kept.of_life none in
+    safe_book (first_book plant) behind.book (safe [] behind)
 
 -- the first calls were entered, and the others fit
 pub record Entering (first now : BookRecord) (calls : List Call) (k : ℕ) : Type 0 where

@@ -1,4 +1,5 @@
-ghost use Rattle.std.specs.Prelude.{◌≡◌, IfOk, ◌∷◌, []};
+ghost use Rattle.std.specs.Prelude.{◌≡◌, IfOk, ◌∷◌, [], None};
+ghost use Rattle.plant_book.specs.Part.{first_book};
 ghost use Rattle.exporter.specs.Playing.{IsPlayable, FitBehind, Enters, IsSafeBook, Keeps};
 
 use crate::script::Script;
@@ -9,9 +10,11 @@ use std::alloc::Global;
 
 /// Enters a call that fits.
 fn enter(plant: &mut Plant, call: Call)
-    requires { FitBehind plant.old (call ∷ []) }
-    ensures entered { Enters plant.old plant.new (call ∷ []) }
-    ensures kept { IsSafeBook plant.new }
+    requires first { plant.old.carry ≡ None }
+    requires fit { FitBehind (first_book plant.old) (call ∷ []) }
+    ensures first { plant.new.carry ≡ None }
+    ensures entered { Enters (first_book plant.old) (first_book plant.new) (call ∷ []) }
+    ensures kept { IsSafeBook (first_book plant.new) }
 {
     match plant.apply(call) {
         Ok(_) => {}
@@ -21,10 +24,11 @@ fn enter(plant: &mut Plant, call: Call)
 
 /// Enters calls, each of which fits behind those before it.
 fn enter_all(plant: &mut Plant, calls: &[Call])
-    requires fit { FitBehind plant.old calls.now }
-    requires kept { IsSafeBook plant.old }
-    ensures entered { Enters plant.old plant.new calls.now }
-    ensures kept { IsSafeBook plant.new }
+    requires first { plant.old.carry ≡ None }
+    requires fit { FitBehind (first_book plant.old) calls.now }
+    requires kept { IsSafeBook (first_book plant.old) }
+    ensures entered { Enters (first_book plant.old) (first_book plant.new) calls.now }
+    ensures kept { IsSafeBook (first_book plant.new) }
 {
     for call in calls {
         enter(plant, *call);
@@ -34,7 +38,7 @@ fn enter_all(plant: &mut Plant, calls: &[Call])
 /// Plays a script from its begin.
 pub fn play(alloc: Global, script: Script) -> Result<Plant, NoMemory>
     requires { IsPlayable script }
-    ensures { IfOk result (λ plant. Keeps script plant) }
+    ensures { IfOk result (λ plant. Keeps script (first_book plant)) }
 {
     let Script {
         site,

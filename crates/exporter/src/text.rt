@@ -1,3 +1,4 @@
+ghost use Rattle.plant_book.specs.Part.{first_book};
 ghost use Rattle.std.specs.Prelude.{◌≡◌, ◌++◌, OnOk, IfOk};
 ghost use Rattle.std.specs.String.{string_bytes};
 ghost use Rattle.std.specs.List.{flat_map};
@@ -128,7 +129,7 @@ fn put_entries(text: &mut String, plant: &Plant) -> Result<(), AllocError>
 
 /// The text of the book that a plant keeps.
 pub fn print_book(alloc: Global, plant: &Plant) -> Result<String, NoMemory>
-    ensures { IfOk result (λ text. string_bytes text ≡ book_text plant.now) }
+    ensures { IfOk result (λ text. string_bytes text ≡ book_text (first_book plant.now)) }
 {
     let mut text = String::new(alloc);
     if put_head(&mut text, plant.site(), plant.start()).is_err() {

@@ -11,7 +11,7 @@ use Rattle.plant_book.specs.Reserved.{now_of}
 use Rattle.plant_book.specs.Answered.{IsBook, with_entries}
 use Rattle.plant_book.specs.Part.{UnitRecord, CarryRecord, PartRecord, book_before, book_behind, part_first, calls_carried, calls_of, moment_carried, last_moment_of}
 use Rattle.plant_book.proofs.Prefix.{IsBook-first}
-use Rattle.plant_book.specs.Carry.{unit_of, carry_of, IsBehind}
+use Rattle.plant_book.specs.Carry.{unit_of, carry_of, IsBehind, IsBookPart}
 
 -- a part with a carry begins with that of the entries before it
 pub carry_is : (part : PartRecord) (before : List Entry) (carry : CarryRecord) → IsBehind before part → part.carry ≡ Some carry → carry ≡ carry_of (book_before before part)
@@ -20,6 +20,10 @@ carry_is part before carry is has = let its = rw has at is.carry in its
 -- the one without a carry is the first of its life
 pub nothing_before : (part : PartRecord) (before : List Entry) → IsBehind before part → part.carry ≡ None → before ≡ []
 nothing_before part before is none = let its = rw none at is.carry in its
+
+-- so it is right behind nothing
+pub behind_nothing : (part : PartRecord) → IsBookPart part → part.carry ≡ None → IsBehind [] part
+behind_nothing part of_life none = subst (λ (es : List Entry). IsBehind es part) (nothing_before part of_life.before of_life.behind none) of_life.behind
 
 -- the unit of an inverter that is found among those of a carry
 pub found_unit : {X : Type 0} (value : X → UnitRecord) (found : Option X) (part : PartRecord) (before : List Entry) (carry : CarryRecord) (inverter : ℕ)

@@ -4,7 +4,8 @@ use Rattle.std.proofs.lemmas.List.{append-nil}
 use Rattle.plant_book.specs.Site.{SiteRecord}
 use Rattle.plant_book.specs.Part.{CarryRecord, PartRecord}
 use Rattle.plant_book.proofs.Last.{some_is}
-use Rattle.plant_book.specs.Carry.{carry_of, carry_behind, entries_of, IsPart, AreParts, Life, IsLife, IsBehind}
+use Rattle.plant_book.specs.Carry.{carry_of, IsBehind}
+use Rattle.plant_book.specs.Life.{carry_behind, entries_of, IsPart, AreParts, Life, IsLife}
 
 -- the last of parts in turn is a part behind those before it
 last_part : (site : SiteRecord) (start : ℕ) (before ended : List PartRecord) (part : PartRecord) → AreParts site start before (ended ++ part ∷ []) → IsPart site start (before ++ ended) part

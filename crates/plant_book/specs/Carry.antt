@@ -1,12 +1,12 @@
--- What a book leaves to the next one of its life, and the lives that are kept in several books.
-use Rattle.std.specs.Prelude.{◌≡◌, ℕ, ◌≤◌, List, [], ◌∷◌, ◌++◌, length, map, Option, Some, None, MatchOption}
+-- What a book leaves to the next one of its life, and which entries a book may be right behind.
+use Rattle.std.specs.Prelude.{◌≡◌, ℕ, List, [], length, map, Option, Some, None, MatchOption}
 use Rattle.std.specs.List.{range_with_len}
 use Rattle.plant_book.specs.declared.book.Entry.{Entry}
 use Rattle.plant_book.specs.declared.carry.CapMark as marks
 use Rattle.plant_book.specs.declared.call.Write as writes
 use Rattle.plant_book.specs.Sums.{last_that}
 use Rattle.plant_book.specs.Calls.{moment}
-use Rattle.plant_book.specs.Site.{SiteRecord, inverters}
+use Rattle.plant_book.specs.Site.{inverters}
 use Rattle.plant_book.specs.Book.{BookRecord}
 use Rattle.plant_book.specs.Part.{UnitRecord, CarryRecord, PartRecord, book_behind, book_before}
 use Rattle.plant_book.specs.Requests.{link_number, requests, pending_read}
@@ -61,56 +61,6 @@ carry_of book = record {
 pub record IsBehind (before : List Entry) (part : PartRecord) : Type 0 where
   pub carry : MatchOption part.carry (before ≡ []) (λ carry. carry ≡ carry_of (book_before before part))
   pub book : IsBook (book_behind before part)
-
--- the entries of books one after another
-abbrev pub entries_of : List PartRecord → List Entry
-entries_of [] = []
-entries_of (part ∷ parts) = part.entries ++ entries_of parts
-
--- A life that is kept in books: those that ended, the oldest first, and the last one.
-pub record Life : Type 0 where
-  pub ended : List PartRecord
-  pub last : PartRecord
-
--- the joined book of a life: the entries of its books one after another
-abbrev pub joined_book : Life → BookRecord
-joined_book life = book_behind (entries_of life.ended) life.last
-
--- what a book of this site and start begins with behind these: the first of a life with nothing
-abbrev pub carry_behind : SiteRecord → ℕ → List PartRecord → Option CarryRecord
-carry_behind site start [] = None
-carry_behind site start (part ∷ parts) = Some (carry_of (record { site = site; start = start; entries = entries_of (part ∷ parts) }))
-
--- a book of a life of this site and start, behind these
-pub record IsPart (site : SiteRecord) (start : ℕ) (before : List PartRecord) (part : PartRecord) : Type 0 where
-  pub one_site : part.site ≡ site
-  pub one_start : part.start ≡ start
-  pub carry : part.carry ≡ carry_behind site start before
-  pub room : length part.entries ≤ site.room
-
-abbrev pub AreParts : SiteRecord → ℕ → List PartRecord → List PartRecord → Type 0
-AreParts site start before [] = Unit {0}
-AreParts site start before (part ∷ later) = IsPart site start before part
-    × AreParts site start (before ++ part ∷ []) later
-
--- an answered life: its books are of one site and start, each begins with what those before it leave, and the
--- joined book is one of right replies
-pub record IsLife (life : Life) : Type 0 where
-  pub parts : AreParts life.last.site life.last.start [] (life.ended ++ life.last ∷ [])
-  pub book : IsBook (joined_book life)
-
--- the life that ended in these books and goes on in this one
-abbrev pub life_in : List PartRecord → PartRecord → Life
-life_in ended part = record { ended = ended; last = part }
-
--- a fact of the joined book of every answered life whose last book this is
-abbrev pub InEachLife : PartRecord → (BookRecord → Type 0) → Type 0
-InEachLife part Fact = (ended : List PartRecord) → IsLife (life_in ended part) → Fact (joined_book (life_in ended part))
-
--- the last book of an answered life
-pub record IsLastBook (part : PartRecord) : Type 0 where
-  pub ended : List PartRecord
-  pub life : IsLife (life_in ended part)
 
 -- a fact of each list of entries that this book may be right behind
 abbrev pub EachBefore : PartRecord → (List Entry → Type 0) → Type 0

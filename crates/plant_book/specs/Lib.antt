@@ -13,6 +13,7 @@ pub mod Answer
 pub mod Ceiling
 pub mod Answered
 pub mod Carry
+pub mod Life
 pub mod History
 pub mod Behaviour
 pub mod Held

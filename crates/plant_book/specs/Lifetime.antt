@@ -22,8 +22,8 @@ is_refusal (replies.Total watts) = false
 is_refusal (replies.CapSet cap ceiling) = false
 is_refusal _ = true
 
--- whether an entry, behind these before it, neither gives the write back nor frees it, and it is not past its last
--- moment at the entry's own
+-- whether an entry, behind these before it, neither gives the write back nor frees it, and it is not past its
+-- last moment at the entry's own
 abbrev pub stays_by : Rules → List Entry → Entry → writes.Write → Bool
 stays_by rules before entry write = not (ends rules before entry write)
     && nat_le (moment entry.call) (last_moment rules write.at)

@@ -1,5 +1,5 @@
 -- What contracts see of a book: a part of a life, which may begin with what the parts before it leave.
-use Rattle.std.specs.Prelude.{ℕ, ◌+◌, Bool, List, ◌++◌, length, take, Option, Some, None}
+use Rattle.std.specs.Prelude.{ℕ, ◌+◌, Bool, List, [], ◌++◌, length, take, Option, Some, None}
 use Rattle.plant_book.specs.declared.call.Write as writes
 use Rattle.plant_book.specs.declared.call.Read as reads
 use Rattle.plant_book.specs.declared.carry.CapMark as marks
@@ -37,13 +37,13 @@ pub record PartRecord : Type 0 where
   pub carry : Option CarryRecord
   pub entries : List Entry
 
--- the joined book where these entries stand before those of the part
-abbrev pub book_behind : List Entry → PartRecord → BookRecord
-book_behind before part = record { site = part.site; start = part.start; entries = before ++ part.entries }
-
 abbrev pub moment_carried : ℕ → Option CarryRecord → ℕ
 moment_carried start None = start
 moment_carried start (Some carry) = carry.last
+
+-- the joined book where these entries stand before those of the part
+abbrev pub book_behind : List Entry → PartRecord → BookRecord
+book_behind before part = record { site = part.site; start = part.start; entries = before ++ part.entries }
 
 abbrev pub calls_carried : Option CarryRecord → ℕ
 calls_carried None = 0
@@ -52,6 +52,10 @@ calls_carried (Some carry) = carry.calls
 -- the count of calls of the life up to and with a part
 abbrev pub calls_of : PartRecord → ℕ
 calls_of part = calls_carried part.carry + length part.entries
+
+-- the book of a life that this part begins
+abbrev pub first_book : PartRecord → BookRecord
+first_book part = book_behind [] part
 
 -- the book before a part, where these are its entries
 abbrev pub book_before : List Entry → PartRecord → BookRecord

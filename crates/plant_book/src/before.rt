@@ -82,7 +82,8 @@ pub fn wish_before(book: &Book, inverter: u8) -> u64
 /// The writes of the inverter that were live at the last moment before the book.
 pub fn writes_before(book: &Book, inverter: u8) -> &[Write]
     requires { inverter < inverters book.now.site }
-    ensures { EachBefore book.now (λ before. result.now ≡ live_writes (book_before before book.now) inverter) }
+    ensures { EachBefore book.now (λ before.
+        result.now ≡ live_writes (book_before before book.now) inverter) }
 {
     match unit_before(book, inverter) {
         Some(unit) => unit.writes.as_slice(),

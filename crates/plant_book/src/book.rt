@@ -49,14 +49,19 @@ impl Model for Book {
 
     ghost Value = { PartRecord };
 
-    ghost view = { λ b. record { site = b.site; start = b.start; carry = b.carry; entries = b.entries.items } };
+    ghost view = { λ b. record {
+      site = b.site;
+      start = b.start;
+      carry = b.carry;
+      entries = b.entries.items;
+    } };
 
     ghost invariant = { λ b. b.site.room ≤ vec_capacity b.entries };
 }
 
 impl Book {
-    /// A book with no entry, and the memory for its whole room. It begins with what the books before it left, if
-    /// it isn't the first of its life.
+    /// A book with no entry, and the memory for its whole room. It begins with what the books before it left,
+    /// if it isn't the first of its life.
     pub fn new(
         alloc: Global,
         site: Site,

@@ -38,7 +38,14 @@ impl Model for UnitCarry {
 
     ghost Value = { UnitRecord };
 
-    ghost view = { λ u. record { link = u.link; sent = u.sent; pending = u.pending; strange = u.strange; wish = u.wish; writes = u.writes.items } };
+    ghost view = { λ u. record {
+      link = u.link;
+      sent = u.sent;
+      pending = u.pending;
+      strange = u.strange;
+      wish = u.wish;
+      writes = u.writes.items;
+    } };
 }
 
 /// What a book leaves to the next book of its life, so that every reply is still that of the whole life.
@@ -63,5 +70,12 @@ impl Model for Carry {
 
     ghost Value = { CarryRecord };
 
-    ghost view = { λ c. record { last = c.last; calls = c.calls; cap = c.cap; set = c.set; stop = c.stop; units = c.units.items } };
+    ghost view = { λ c. record {
+      last = c.last;
+      calls = c.calls;
+      cap = c.cap;
+      set = c.set;
+      stop = c.stop;
+      units = c.units.items;
+    } };
 }

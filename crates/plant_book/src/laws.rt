@@ -12,7 +12,8 @@ ghost use Rattle.plant_book.specs.History.{History, Grant, Sight, grants, IsHist
 ghost use Rattle.plant_book.specs.Behaviour.{IsBehaviour, IsUnseen, MayShow, acts_last, acts_and_shows};
 ghost use Rattle.plant_book.specs.Safe.{IsSafeAlways};
 ghost use Rattle.plant_book.specs.Tight.{IsTight};
-ghost use Rattle.plant_book.specs.Carry.{Life, IsLife, IsBehind, entries_of};
+ghost use Rattle.plant_book.specs.Carry.{IsBehind};
+ghost use Rattle.plant_book.specs.Life.{Life, IsLife, entries_of};
 
 /// Every history is safe at every moment: whatever past it has that fits, and however often the plant was
 /// restarted.
@@ -90,8 +91,8 @@ pub fn totals_come_back_under_the_cap()
     ensures back { (book : BookRecord) → IsBook book → IsBackUnderCap book }
 {}
 
-/// A life may be kept in several books. The last of them is right behind the entries of those before it: so what a
-/// call says of each joined book that goes on in a book, it says of every answered life whose last book this is.
+/// A life may be kept in several books. The last of them is right behind the entries of those before it: so what
+/// a call says of each joined book that goes on in a book, it says of every answered life whose last book it is.
 pub fn lives_are_joined()
     ensures { (life : Life) → IsLife life → IsBehind (entries_of life.ended) life.last }
 {}

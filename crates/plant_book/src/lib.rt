@@ -1,7 +1,8 @@
 //! The rules of the ledger, which a reader has to believe, and a plain slow program that follows them.
 //!
 //! A book is a site, a start and a list of calls with their replies. `specs/` says what each reply has to be,
-//! from the whole list; `answer` and `reserved_plain` compute it so.
+//! from the whole list; `answer` and `reserved_plain` compute it so. A life may be kept in several books, of
+//! which each begins with a carry: what the books before it leave.
 #![tactic(auto)]
 
 mod before;

@@ -78,7 +78,8 @@ fn wish_by(call: &Call, inverter: u8) -> Option<u64>
 fn wish_from(from: u64, entries: &[Entry], inverter: u8) -> u64
     ensures { (rated : ℕ) (before : List Entry)
         → from ≡ rule.wish_after rated inverter (last_that (rule.is_want inverter) before)
-        → result ≡ rule.wish_after rated inverter (last_that (rule.is_want inverter) (before ++ entries.now)) }
+        → result ≡ rule.wish_after rated inverter
+        (last_that (rule.is_want inverter) (before ++ entries.now)) }
 {
     let mut wish = from;
     for entry in entries {

@@ -58,10 +58,12 @@ pub record LeavesReservations (old : BookRecord) (entry : Entry) (new : BookReco
 -- joined book asks for, and with the new book the life is an answered one again. A write stays reserved until it
 -- is given back, freed or past, and is gone at that very call. Only a Cap that is answered so changes the cap, and
 -- the reply tells the ceiling right after it.
-pub record GoesOn (before : List Entry) (old : PartRecord) (call : Call) (reply : Reply) (new : PartRecord) : Type 0 where
+pub record GoesOn (before : List Entry) (old : PartRecord) (call : Call) (reply : Reply)
+    (new : PartRecord) : Type 0 where
   pub right : reply ≡ right_reply (book_behind before old) call
   pub answered : IsBehind before new
-  pub reserved : LeavesReservations (book_behind before old) (entry_of old call reply) (book_behind before new)
+  pub reserved : LeavesReservations (book_behind before old) (entry_of old call reply)
+      (book_behind before new)
   pub told : TellsCap (book_behind before old) (entry_of old call reply) (book_behind before new)
 
 -- the empty book that goes on behind this one: it begins with what the joined book leaves

@@ -1,8 +1,7 @@
 //! The ledger: one book of calls, of which each reply is the one that the book before it asks for.
 //!
-//! `Plant::open` takes all memory that the book will need; no later call takes any. A `Ticket` is the right
-//! to
-//! send one granted write, once.
+//! `Plant::open` takes all memory that the book will need, and `Plant::roll` that of the next one; no other call
+//! takes any. A `Ticket` is the right to send one granted write, once.
 #![tactic(auto)]
 
 mod account;

@@ -1,9 +1,10 @@
-use Rattle.std.proofs.Common.{◌≡◌, subst, ap, arith}
+use Rattle.std.proofs.Common.{◌≡◌, subst, ap, ◌∙◌, arith}
 use Rattle.std.specs.Prelude.{Result, Ok, Err, IfOk, IfErr, length}
 use Rattle.plant_book.specs.declared.call.Call.{Call}
-use Rattle.plant_book.specs.Book.{BookRecord}
 use Rattle.plant_book.specs.Reserved.{now_of}
+use Rattle.plant_book.specs.Part.{PartRecord, first_book}
 use Rattle.plant_book.proofs.Cap.{total_at-capped}
+use Rattle.plant_book.proofs.Behind.{behind_nothing}
 use Rattle.plant_ledger.specs.declared.plant.BookFull.{BookFull}
 use Rattle.plant_ledger.specs.declared.plant.Outcome.{Outcome}
 use Rattle.plant_ledger.specs.Plant.{entered}
@@ -11,21 +12,28 @@ use Rattle.restart_silence.specs.Chain.{GoesOn}
 use Rattle.restart_silence.proofs.Chain.{goes_on}
 use Rattle.restart_silence.proofs.lives.Lives.apply.Goals as goal
 
--- a call leaves the site and the start
-record SameLife (old new : BookRecord) : Type 0 where
+-- a call leaves the site, the start and the carry
+record SameLife (old new : PartRecord) : Type 0 where
   site : new.site ≡ old.site
   start : new.start ≡ old.start
+  carry : new.carry ≡ old.carry
 
-same_life : (old new : BookRecord) (call : Call) (result : Result Outcome BookFull) → IfOk result (λ outcome. new ≡ entered old call outcome.reply)
+same_life : (old new : PartRecord) (call : Call) (result : Result Outcome BookFull) → IfOk result (λ outcome. new ≡ entered old call outcome.reply)
     → IfErr result (λ full. (full.calls ≡ length old.entries) × (full.calls ≡ old.site.room) × (new ≡ old)) → SameLife old new
-same_life old new call (Ok outcome) is full = record { site = ap (λ (b : BookRecord). b.site) is; start = ap (λ (b : BookRecord). b.start) is }
-same_life old new call (Err full) entered is = record { site = ap (λ (b : BookRecord). b.site) is.2; start = ap (λ (b : BookRecord). b.start) is.2 }
+same_life old new call (Ok outcome) is full = record { site = ap (λ (b : PartRecord). b.site) is; start = ap (λ (b : PartRecord). b.start) is; carry = ap (λ (b : PartRecord). b.carry) is }
+same_life old new call (Err full) is same = record { site = ap (λ (b : PartRecord). b.site) same.2; start = ap (λ (b : PartRecord). b.start) same.2; carry = ap (λ (b : PartRecord). b.carry) same.2 }
 
 pub returns-clause-chain : goal.returns-clause-chain
 returns-clause-chain c =
     let old = c.self.inside.plant in
-    let same = same_life old c.apply.new.self c.args.call c.apply.result c.apply.ensures.entered c.apply.ensures.full in
-    subst (λ (b : BookRecord). GoesOn b c.apply.new.self) c.self.view_is (goes_on old c.apply.new.self c.apply.ensures.kept same.site same.start)
+    let new = c.apply.new.self in
+    let same = same_life old new c.args.call c.apply.result c.apply.ensures.entered c.apply.ensures.full in
+    let book = (behind_nothing new c.apply.ensures.kept.of_life (same.carry ∙ c.self.invariant)).book in
+    subst (λ (b : PartRecord). GoesOn (first_book b) (first_book new)) c.self.view_is (goes_on (first_book old) (first_book new) book same.site same.start)
 
 pub returns-clause-capped : goal.returns-clause-capped
-returns-clause-capped c = total_at-capped c.apply.new.self c.apply.ensures.kept (now_of c.apply.new.self) (omega arith)
+returns-clause-capped c =
+    let new = c.apply.new.self in
+    let same = same_life c.self.inside.plant new c.args.call c.apply.result c.apply.ensures.entered c.apply.ensures.full in
+    let book = (behind_nothing new c.apply.ensures.kept.of_life (same.carry ∙ c.self.invariant)).book in
+    total_at-capped (first_book new) book (now_of (first_book new)) (omega arith)
