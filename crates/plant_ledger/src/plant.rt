@@ -116,9 +116,9 @@ impl Plant {
         ensures full { IfErr result (λ full. (full.calls ≡ length self.old.entries)
             × (full.calls ≡ self.old.site.room) × (self.new ≡ self.old)) }
 
-        // Of each life whose last book is the new one: what is reserved in all stays under the ceiling, the site's
-        // cap through the silence, and within reach of a lowering what was reserved right after it. Past that it is
-        // back under the cap.
+        // Of each life whose last book is the new one: what is reserved in all stays under the ceiling, the
+        // site's cap through the silence, and within reach of a lowering what was reserved right after it.
+        // Past that it is back under the cap.
         ensures kept { IsKept self.new }
         ensures capped { EachBook self.new IsUnderCeiling }
         ensures back { EachBook self.new IsBackUnderCap }
@@ -126,8 +126,8 @@ impl Plant {
         // Behind the silence, and in the first life of a plant, what an inverter may hold is reserved for it.
         ensures covered { EachBook self.new CoversHeld }
 
-        // Whatever past that fits the life followed, and whatever inverters did that follow the timed device. And no
-        // ledger that knows only the calls could free a write sooner.
+        // Whatever past that fits the life followed, and whatever inverters did that follow the timed device.
+        // And no ledger that knows only the calls could free a write sooner.
         ensures safe { EachBook self.new IsSafeLife }
         ensures tight { EachBook self.new IsTight }
     {
@@ -143,8 +143,7 @@ impl Plant {
     }
 
     /// Gives back a write that was not sent and never will be: the Back of the ticket's write. A full book
-    /// hands the
-    /// ticket back.
+    /// hands the ticket back.
     pub fn release(&mut self, ticket: Ticket, at: u64) -> Result<Reply, (BookFull, Ticket)>
         requires moment { at ≤ MOMENT_MAX }
         requires of_site { ticket.inverter < inverters self.old.site }
@@ -248,7 +247,7 @@ impl Plant {
         self.ledger.cap()
     }
 
-    /// What all limits together stay under at the last moment, in mW, also right behind a lowering of the cap.
+    /// What all limits together stay under at the last moment, in mW, also right behind a lowering.
     pub fn ceiling(&self) -> u64
         ensures { EachBook self.now (λ whole. result ≡ ceiling whole) }
     {
