@@ -38,7 +38,8 @@ pub record AreAccounts (book : BookRecord) (now : ℕ) (accounts : List Account)
       → IsAccount book now inverter (slice_index_or accounts inverter otherwise)
 
 -- what the ledger keeps are the numbers of its book
-pub record IsLedger (book : BookRecord) (now : ℕ) (accounts : List Account) (cap : ℕ) (stopped : Bool) : Type 0 where
+pub record IsLedger (book : BookRecord) (now : ℕ) (accounts : List Account) (cap : ℕ) (stopped : Bool)
+    : Type 0 where
   pub kept : IsBook book
   pub later : now_of book ≤ now
   pub high : now ≤ MOMENT_MAX
@@ -47,7 +48,8 @@ pub record IsLedger (book : BookRecord) (now : ℕ) (accounts : List Account) (c
   pub stop : stopped ≡ is_stopped book
 
 -- what the ledger keeps are the numbers of each life whose last book this is
-pub record IsLedgerOf (part : PartRecord) (now : ℕ) (accounts : List Account) (cap : ℕ) (stopped : Bool) : Type 0 where
+pub record IsLedgerOf (part : PartRecord) (now : ℕ) (accounts : List Account) (cap : ℕ) (stopped : Bool)
+    : Type 0 where
   pub of_life : IsBookPart part
   pub later : last_moment_of part ≤ now
   pub high : now ≤ MOMENT_MAX

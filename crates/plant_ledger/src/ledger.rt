@@ -20,7 +20,8 @@ use std::alloc::Global;
 use std::marker::Model;
 use std::mem;
 
-/// A book with the account of each inverter at a moment from its last one on, so that no reply walks the entries.
+/// A book with the account of each inverter at a moment from its last one on, so that no reply walks the
+/// entries.
 #[derive(Debug, Drop)]
 pub struct Ledger {
     book: Book,
@@ -90,8 +91,8 @@ impl Ledger {
         self.book.push(entry);
     }
 
-    /// Ends the book, hands it out, and goes on with an empty one that begins with what the life leaves. After a
-    /// refusal all is as before.
+    /// Ends the book, hands it out, and goes on with an empty one that begins with what the life leaves.
+    /// After a refusal all is as before.
     pub fn roll(&mut self, alloc: Global) -> Result<Book, RollFault>
         requires { IsAtLast self.old }
         ensures ended { IfOk result (λ ended. ended ≡ self.old.book) }
@@ -268,7 +269,8 @@ fn follow(accounts: &mut [Account], rules: &Rules, entry: &Entry)
         → HasRoom entry.now.reply (slice_index_or accounts.old inverter otherwise) }
     ensures named { (inverter : ℕ) (otherwise : Kept) → named entry.now.call ≡ Some inverter
         → accounts.new ≡ slice_set accounts.old inverter
-        (after_call rules.now entry.now.call entry.now.reply (slice_index_or accounts.old inverter otherwise)) }
+        (after_call rules.now entry.now.call entry.now.reply
+        (slice_index_or accounts.old inverter otherwise)) }
     ensures unnamed { named entry.now.call ≡ None → accounts.new ≡ accounts.old }
 {
     if let Some(inverter) = entry.call.inverter() {

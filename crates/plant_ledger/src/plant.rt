@@ -106,8 +106,8 @@ impl Plant {
         ensures entered { IfOk result (λ outcome. self.new ≡ entered self.old call outcome.reply) }
         ensures ticket { IfOk result (λ outcome. outcome.ticket ≡ ticket_for outcome.reply) }
 
-        // Of each life whose last book this is: the reply is the one that the joined book asks for, and the life
-        // goes on.
+        // Of each life whose last book this is: the reply is the one that the joined book asks for, and the
+        // life goes on.
         ensures lives { IfOk result (λ outcome. EachBefore self.old
             (λ before. GoesOn before self.old call outcome.reply self.new)) }
 

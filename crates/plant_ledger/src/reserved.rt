@@ -14,7 +14,8 @@ impl Ledger {
     #[tactic(auto, unfolding(plant_book::specs::Reserved::reserved_at))]
     pub fn reserved(&self, inverter: u8) -> u64
         requires of_site { inverter < inverters self.now.book.site }
-        ensures watts { EachBook self.now.book (λ whole. result ≡ sums.reserved_at whole self.now.at inverter) }
+        ensures watts { EachBook self.now.book
+            (λ whole. result ≡ sums.reserved_at whole self.now.at inverter) }
         ensures below { result ≤ 65535 * 10 ^ 12 }
     {
         covering(self.unit(inverter), &self.account(inverter).live)

@@ -90,7 +90,8 @@ impl Ledger {
     #[tactic(auto, unfolding(plant_book::specs::Policy::fall_share))]
     fn fall_share(&self, inverter: u8) -> u64
         requires { inverter < inverters self.now.book.site }
-        ensures { EachBook self.now.book (λ whole. result ≡ rule.fall_share whole.site (cap_of whole) inverter) }
+        ensures { EachBook self.now.book
+            (λ whole. result ≡ rule.fall_share whole.site (cap_of whole) inverter) }
     {
         let level = level(self.cap(), self.fall_claims().as_slice());
         share_policy::target(Policy::Fair, level, &self.fall_claim(inverter))
@@ -113,7 +114,8 @@ impl Ledger {
 
 /// The rating that the policy goes by, in mW: the floor for a strange inverter.
 fn trusted(unit: &Unit, account: &Account) -> u64
-    ensures { result ≡ (if account.now.strange then mw unit.now.rating unit.now.floor else rated unit.now.rating) }
+    ensures { result ≡ (if account.now.strange then mw unit.now.rating unit.now.floor
+        else rated unit.now.rating) }
 {
     if account.strange {
         unit.rating.mw(unit.floor)

@@ -44,7 +44,6 @@ fn call_by(digits: u32, at: u64, last: &Last) -> Call {
 }
 
 /// What the plain slow program replies to a call on the book of the plant.
-#[tactic(auto, unfolding(plant_book::specs::Reserved::now_of))]
 fn plain(rt: &impl Abort, plant: &Plant, call: Call) -> Reply {
     let at = call.at().max(plant.latest());
     let moved = call.at_moment(at);
@@ -54,6 +53,7 @@ fn plain(rt: &impl Abort, plant: &Plant, call: Call) -> Reply {
     if let Some(inverter) = moved.inverter() {
         assert!(rt; usize::from(inverter) < plant.site().units.len());
     }
+    assert!(rt; plant.calls() < plant.site().room);
     answer(plant.book(), &moved)
 }
 
