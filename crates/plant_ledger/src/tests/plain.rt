@@ -72,7 +72,7 @@ fn replies_are_those_of_the_plain_program(rt: HostRuntime) -> Result<(), Fail> {
             at: 0,
         },
     };
-    for _ in 0..3_000 {
+    for _ in 0..600 {
         state = state.wrapping_mul(1_664_525).wrapping_add(1_013_904_223);
         let digits = state >> 8;
         at = at.saturating_add(u64::from(digits / 1_152 % 600));
