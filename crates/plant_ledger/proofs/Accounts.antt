@@ -3,11 +3,10 @@ use Rattle.std.proofs.Common.{◌≡◌, ℕ, ◌<◌, ◌≤◌, Bool, true, fa
 use Rattle.std.specs.Prelude.{IfSome, slice_get, slice_set}
 use Rattle.std.specs.List.{list_any}
 use Rattle.std.proofs.lemmas.Bool.{cases_Bool, cases_eq}
-use Rattle.std.proofs.lemmas.List.{length-map, get_or-map, get_or-set_same, get_or-set_other}
+use Rattle.std.proofs.lemmas.List.{append-nil, length-map, get_or-map, get_or-set_same, get_or-set_other}
+use Rattle.std.proofs.lemmas.List.FromFn.{get_or-map-range_with_len}
 use Rattle.std.proofs.lemmas.List.Folds.{list_any-append}
 use Rattle.std.proofs.lemmas.List.Sums.{count_by-le-length}
-use Rattle.std.proofs.lemmas.List.{length_push, append-nil}
-use Rattle.std.proofs.lemmas.List.FromFn.{get_or-map-range_with_len}
 use Rattle.std.proofs.Math.Seq.{take-append_seam}
 use Rattle.plant_book.specs.declared.call.Call.{Call}
 use Rattle.plant_book.specs.declared.call.Call.TheVariants as calls
@@ -18,25 +17,25 @@ use Rattle.plant_book.specs.declared.site.Unit.{Unit as Inverter}
 use Rattle.plant_book.specs.declared.book.Entry.{Entry}
 use Rattle.plant_book.specs.Site.{SiteRecord, inverters}
 use Rattle.plant_book.specs.Book.{BookRecord}
+use Rattle.plant_book.specs.Part.{UnitRecord, CarryRecord, PartRecord, begin_of, calls_of, last_moment_of, book_before, book_behind}
+use Rattle.plant_book.specs.Writes.{live}
+use Rattle.plant_book.specs.Carry.{unit_of, carry_of, IsBehind, EachBefore}
 use Rattle.plant_book.specs.Calls.{moment, named, latest}
 use Rattle.plant_book.specs.Requests as counted
 use Rattle.plant_book.specs.Caps.{sets_by, sets_cap, cap_by, cap_of}
 use Rattle.plant_book.specs.Reserved.{now_of}
-use Rattle.plant_book.specs.Part.{UnitRecord, CarryRecord, PartRecord, begin_of, last_moment_of, calls_of, book_behind, book_before}
-use Rattle.plant_book.specs.Carry.{unit_of, carry_of, IsBehind, EachBook}
-use Rattle.plant_book.specs.Writes as writes
-use Rattle.plant_book.specs.Answer.{stops, is_stopped, reply_to}
+use Rattle.plant_book.specs.Answer.{stops, is_stopped}
 use Rattle.plant_book.specs.Answered.{IsBook, IsNext, IsAnswer, IsOpenable, with_entries}
 use Rattle.plant_book.proofs.CapInForce.{cap_of-set, cap_of-same, cap_of-empty}
+use Rattle.plant_book.proofs.Behind.{carry_is, nothing_before, calls_of-is, last_moment_of-is, IsBehind-first}
 use Rattle.plant_book.proofs.Inverters.{mw_at-is, floor_at-is, floor_raw_at-is, full_at-is, rated_at-is, raw_at-is}
 use Rattle.plant_book.proofs.Steps.{latest-push}
-use Rattle.plant_book.proofs.Behind.{calls_of-is, last_moment_of-is, nothing_before, carry_is, IsBehind-first}
 use Rattle.plant_book.proofs.Growth.{IsBook-push, IsBook-empty, empty_book, with_entry}
 use Rattle.uncertain_writes.proofs.Pending.{PendsOwn-answered}
 use Rattle.plant_ledger.specs.declared.account.Account.{Account}
 use Rattle.plant_ledger.specs.Account.{IsAccount, HasRoom, first_account, after_call}
-use Rattle.plant_ledger.specs.Ledger.{LedgerRecord, IsUnit, AreAccounts, AreNumbers, IsLedger, IsAtLast, account_at}
-use Rattle.plant_ledger.specs.Plant.{IsKept, Rolls}
+use Rattle.plant_ledger.specs.Ledger.{IsUnit, AreAccounts, IsLedger, IsLedgerOf, account_at}
+use Rattle.plant_ledger.specs.Plant.{with_one, next_book, Rolls}
 use Rattle.plant_ledger.proofs.Following.{own_account, other_account, later_account, first_is_account}
 use Rattle.plant_ledger.proofs.Fitting.{fits_call, has_room}
 
@@ -56,28 +55,23 @@ later_accounts book now later accounts le are =
           (later_account book now later inverter (get_or accounts inverter otherwise) le (are.each inverter otherwise of_site));
     }
 
-pub later_ledger : (book : PartRecord) (now later : ℕ) (accounts others : List Account) (cap : ℕ) (stopped : Bool) → now ≤ later → later ≤ MOMENT_MAX → others ≡ map (account_at book.site.rules later) accounts
+pub later_ledger : (book : BookRecord) (now later : ℕ) (accounts others : List Account) (cap : ℕ) (stopped : Bool) → now ≤ later → later ≤ MOMENT_MAX → others ≡ map (account_at book.site.rules later) accounts
     → IsLedger book now accounts cap stopped → IsLedger book later others cap stopped
 later_ledger book now later accounts others cap stopped le high are ledger = record {
   kept = ledger.kept;
   later = omega (arith, ledger.later);
   high = high;
-  count = ap (λ (all : List Account). length all) are ∙ length-map accounts (account_at book.site.rules later) ∙ ledger.count;
-  of_lives = λ before behind.
-      let numbers = ledger.of_lives before behind in
-      record {
-        of_inverters = subst (λ (all : List Account). AreAccounts (book_behind before book) later all) (sym are) (later_accounts (book_behind before book) now later accounts le numbers.of_inverters);
-        in_force = numbers.in_force;
-        stop = numbers.stop;
-      };
+  of_inverters = subst (λ (all : List Account). AreAccounts book later all) (sym are) (later_accounts book now later accounts le ledger.of_inverters);
+  in_force = ledger.in_force;
+  stop = ledger.stop;
 }
 
--- an entry that a ledger may take
-pub record MayEnter (ledger : LedgerRecord) (entry : Entry) : Type 0 where
-  pub room : length ledger.book.entries < ledger.book.site.room
-  pub next : IsNext ledger.book.site (begin_of ledger.book) ledger.book.entries entry.call
-  pub answer : EachBook ledger.book (λ whole. entry.reply ≡ reply_to whole entry.call)
-  pub now : moment entry.call ≡ ledger.at
+-- an entry that may stand behind those of a book
+pub record MayEnter (book : BookRecord) (now : ℕ) (entry : Entry) : Type 0 where
+  pub calls : length book.entries < CALLS_MAX
+  pub next : IsNext book.site book.start book.entries entry.call
+  pub answer : IsAnswer book book.entries entry
+  pub at_once : moment entry.call ≡ now
 
 -- how the accounts follow one more entry
 pub record Follow (book : BookRecord) (entry : Entry) (accounts others : List Account) : Type 0 where
@@ -157,203 +151,52 @@ cap_next book entry cap is =
     set_by (calls.Cap at watts) reply one other set = refl
     set_by _ reply one other set = absurd cc
 
--- the book with this entry behind it
-abbrev pub part_with : PartRecord → Entry → PartRecord
-part_with book entry = record book { entries = book.entries ++ entry ∷ [] }
-
-through : (before : List Entry) (book : PartRecord) (entry : Entry) → with_entry (book_behind before book) entry ≡ book_behind before (part_with book entry)
-through before book entry = ap (λ (es : List Entry). with_entries (book_behind before book) es) (append_assoc before book.entries (entry ∷ []))
-
--- the entry may be entered behind the life too
-next_in_life : (book : PartRecord) (entry : Entry) (before : List Entry) → IsBehind before book → IsNext book.site (begin_of book) book.entries entry.call
-    → IsNext book.site book.start (before ++ book.entries) entry.call
-unfolding now_of
-next_in_life book entry before behind next = record {
-  later = omega (arith, next.later, last_moment_of-is book before behind);
-  moment_high = next.moment_high;
-  of_site = next.of_site;
-  in_range = next.in_range;
-}
-
--- a life with room for one more call
-few_calls : (book : PartRecord) (before : List Entry) → IsKept book → IsBehind before book → length book.entries < book.site.room → length (before ++ book.entries) < CALLS_MAX
-few_calls book before kept behind room = omega (arith, kept.calls, room, calls_of-is book before behind)
-
--- a book of a life goes on to be one with one more entry
-next_behind : (book : PartRecord) (entry : Entry) (before : List Entry) → IsKept book → IsBehind before book → (now : ℕ) → MayEnter (record { book = book; at = now }) entry
-    → IsBehind before (part_with book entry)
-next_behind book entry before kept behind now may = record {
-  carry = behind.carry;
-  book = subst IsBook (through before book entry)
-      (IsBook-push (book_behind before book) entry behind.book (few_calls book before kept behind may.room) (next_in_life book entry before behind may.next) (may.answer before behind));
-}
-
-pub next_kept : (book : PartRecord) (entry : Entry) (now : ℕ) → IsKept book → MayEnter (record { book = book; at = now }) entry → IsKept (part_with book entry)
-next_kept book entry now kept may = record {
-  of_life = record { before = kept.of_life.before; behind = next_behind book entry kept.of_life.before kept kept.of_life.behind now may };
-  room = omega (arith, may.room, length_push book.entries entry);
-  calls = kept.calls;
-}
-
--- those that are behind the book with one more entry are behind the book
-back_behind : (book : PartRecord) (entry : Entry) (before : List Entry) → IsBehind before (part_with book entry) → IsBehind before book
-back_behind book entry before behind =
-    subst (λ (es : List Entry). IsBehind before (record book { entries = es })) (take-append_seam book.entries (entry ∷ []))
-    (IsBehind-first (part_with book entry) before (length book.entries) behind)
-
 -- what the ledger keeps after one more entry
-pub next_ledger : (book : PartRecord) (entry : Entry) (now : ℕ) (accounts others : List Account) (cap : ℕ) (stopped : Bool) → IsLedger book now accounts cap stopped → MayEnter (record { book = book; at = now }) entry
-    → ((before : List Entry) → IsBehind before book → Follow (book_behind before book) entry accounts others) → (in_force : ℕ) (after : Bool) → in_force ≡ cond (sets_cap entry) (cap_by cap entry.call) cap → after ≡ (stopped || stops entry.call)
-    → length others ≡ length accounts
-    → IsLedger (part_with book entry) now others in_force after
+pub next_ledger : (book : BookRecord) (entry : Entry) (now : ℕ) (accounts others : List Account) (cap : ℕ) (stopped : Bool) → IsLedger book now accounts cap stopped → MayEnter book now entry
+    → Follow book entry accounts others → (in_force : ℕ) (after : Bool) → in_force ≡ cond (sets_cap entry) (cap_by cap entry.call) cap → after ≡ (stopped || stops entry.call)
+    → IsLedger (with_entry book entry) now others in_force after
 unfolding now_of
-next_ledger book entry now accounts others cap stopped ledger may follow in_force after set stop count =
-    record {
-      kept = next_kept book entry now ledger.kept may;
-      later = omega (arith, latest-push (begin_of book) book.entries entry, may.now);
-      high = ledger.high;
-      count = count ∙ ledger.count;
-      of_lives = λ before on.
-          let behind = back_behind book entry before on in
-          let whole = book_behind before book in
-          let numbers = ledger.of_lives before behind in
-          let may_next = next_in_life book entry before behind may.next in
-          subst (λ (b : BookRecord). AreNumbers b now others in_force after) (through before book entry)
-          (record {
-            of_inverters = subst (λ (at : ℕ). AreAccounts (with_entry whole entry) at others) may.now
-                (next_accounts whole entry accounts others (subst (λ (at : ℕ). AreAccounts whole at accounts) (sym may.now) numbers.of_inverters) behind.book (may.answer before behind) may_next (follow before behind) (named entry.call) refl);
-            in_force = set ∙ sym (cap_next whole entry cap numbers.in_force);
-            stop = stop ∙ ap (λ (b : Bool). b || stops entry.call) numbers.stop ∙ sym (stopped_next whole entry);
-          });
-    }
+next_ledger book entry now accounts others cap stopped ledger may follow in_force after set stop = record {
+  kept = IsBook-push book entry ledger.kept may.calls may.next may.answer;
+  later = omega (arith, latest-push book.start book.entries entry, may.at_once);
+  high = ledger.high;
+  of_inverters = subst (λ (at : ℕ). AreAccounts (with_entry book entry) at others) may.at_once
+      (next_accounts book entry accounts others (subst (λ (at : ℕ). AreAccounts book at accounts) (sym may.at_once) ledger.of_inverters) ledger.kept may.answer may.next follow (named entry.call) refl);
+  in_force = set ∙ sym (cap_next book entry cap ledger.in_force);
+  stop = stop ∙ ap (λ (b : Bool). b || stops entry.call) ledger.stop ∙ sym (stopped_next book entry);
+}
 
--- no account has had as many links as its life has calls
-pub few_links : (book : PartRecord) (before : List Entry) (now inverter : ℕ) (account : Account) → IsBehind before book → calls_of book < CALLS_MAX → IsAccount (book_behind before book) now inverter account → account.link < 4294967295
+-- no account has had as many links as a number of them can count
+pub few_links : (book : BookRecord) (now inverter : ℕ) (account : Account) → length book.entries < CALLS_MAX → IsAccount book now inverter account → account.link < 4294967295
 unfolding counted.link_number
-few_links book before now inverter account behind few its =
-    omega (arith, its.link, count_by-le-length (counted.is_link inverter) (before ++ book.entries), calls_of-is book before behind, few)
+few_links book now inverter account fewer its =
+    omega (arith, its.link, count_by-le-length (counted.is_link inverter) book.entries, fewer)
 
-module _ (book : PartRecord) (entry : Entry) (now : ℕ) (accounts : List Account) (cap : ℕ) (stopped : Bool) (ledger : IsLedger book now accounts cap stopped)
-    (may : MayEnter (record { book = book; at = now }) entry) (inverter : ℕ) (otherwise : Account) (is : named entry.call ≡ Some inverter) where
+module _ (book : BookRecord) (entry : Entry) (now : ℕ) (accounts : List Account) (cap : ℕ) (stopped : Bool) (ledger : IsLedger book now accounts cap stopped)
+    (may : MayEnter book now entry) (inverter : ℕ) (otherwise : Account) (is : named entry.call ≡ Some inverter) where
   within : inverter < inverters book.site
   within = subst (λ (o : Option ℕ). IfSome o (λ i. i < inverters book.site)) is may.next.of_site
 
-  before : List Entry
-  before = ledger.kept.of_life.before
-
-  behind : IsBehind before book
-  unfolding before
-  behind = ledger.kept.of_life.behind
-
-  its : IsAccount (book_behind before book) now inverter (get_or accounts inverter otherwise)
-  its = (ledger.of_lives before behind).of_inverters.each inverter otherwise within
-
   pub links_left : (get_or accounts inverter otherwise).link < 4294967295
-  links_left = few_links book before now inverter (get_or accounts inverter otherwise) behind (omega (arith, ledger.kept.calls, may.room)) its
+  links_left = few_links book now inverter (get_or accounts inverter otherwise) may.calls (ledger.of_inverters.each inverter otherwise within)
 
   pub room_left : HasRoom entry.reply (get_or accounts inverter otherwise)
-  room_left = has_room (book_behind before book) entry now inverter (get_or accounts inverter otherwise) its is may.now ledger.high (may.answer before behind)
+  room_left = has_room book entry now inverter (get_or accounts inverter otherwise) (ledger.of_inverters.each inverter otherwise within) is may.at_once ledger.high may.answer
 
--- the first book of a life, without entries
-abbrev pub first_part : SiteRecord → ℕ → PartRecord
-first_part site start = record { site = site; start = start; carry = None; entries = [] }
-
-pub first_kept : (site : SiteRecord) (start : ℕ) → IsOpenable site → start ≤ MOMENT_MAX → IsKept (first_part site start)
-first_kept site start openable low = record {
-  of_life = record { before = []; behind = record { carry = refl; book = IsBook-empty site start openable low } };
-  room = omega arith;
-  calls = omega (arith, openable.checked.room_high);
-}
-
--- what the ledger keeps of it
-pub first_ledger : (site : SiteRecord) (start : ℕ) → IsOpenable site → start ≤ MOMENT_MAX
-    → IsLedger (first_part site start) start (map first_account site.units) site.cap false
+-- what the ledger keeps of a book without entries
+pub first_ledger : (site : SiteRecord) (start : ℕ) → IsOpenable site → start ≤ MOMENT_MAX → IsLedger (empty_book site start) start (map first_account site.units) site.cap false
 unfolding now_of latest is_stopped
 first_ledger site start openable low = record {
-  kept = first_kept site start openable low;
+  kept = IsBook-empty site start openable low;
   later = omega arith;
   high = low;
-  count = length-map site.units first_account;
-  of_lives = λ before behind.
-      subst (λ (es : List Entry). AreNumbers (book_behind es (first_part site start)) start (map first_account site.units) site.cap false)
-      (sym (nothing_before (first_part site start) before behind refl))
-      (record {
-        of_inverters = record {
-          count = length-map site.units first_account;
-          each = λ inverter otherwise of_site. first_is_account site start inverter otherwise of_site;
-        };
-        in_force = sym (cap_of-empty (empty_book site start));
-        stop = refl;
-      });
-}
-
--- Two books that leave the same have the same numbers at their last moment.
-same_account : (one other : BookRecord) (inverter : ℕ) (account : Account) → carry_of one ≡ carry_of other → inverter < inverters one.site → inverters one.site ≡ inverters other.site
-    → IsAccount one (now_of one) inverter account → IsAccount other (now_of one) inverter account
-same_account one other inverter account same within sites is =
-    let unit : unit_of one inverter ≡ unit_of other inverter =
-    sym (get_or-map-range_with_len (unit_of one) 0 (inverters one.site) inverter inverter (unit_of one inverter) within (omega arith))
-    ∙ ap (λ (carry : CarryRecord). get_or carry.units inverter (unit_of one inverter)) same
-    ∙ get_or-map-range_with_len (unit_of other) 0 (inverters other.site) inverter inverter (unit_of one inverter) (omega (arith, within, sites)) (omega arith) in
-    let last : now_of one ≡ now_of other = ap (λ (carry : CarryRecord). carry.last) same in
-    record {
-      link = is.link ∙ ap (λ (u : UnitRecord). u.link) unit;
-      requests = is.requests ∙ ap (λ (u : UnitRecord). u.sent) unit;
-      pending = is.pending ∙ ap (λ (u : UnitRecord). u.pending) unit;
-      strange = is.strange ∙ ap (λ (u : UnitRecord). u.strange) unit;
-      wish = is.wish ∙ ap (λ (u : UnitRecord). u.wish) unit;
-      live = is.live ∙ ap (λ (u : UnitRecord). u.writes) unit ∙ ap (λ (now : ℕ). writes.live other.site.rules other.entries now inverter) (sym last);
-    }
-
-same_numbers : (one other : BookRecord) (accounts : List Account) (cap : ℕ) (stopped : Bool) → carry_of one ≡ carry_of other → inverters one.site ≡ inverters other.site
-    → AreNumbers one (now_of one) accounts cap stopped → AreNumbers other (now_of one) accounts cap stopped
-same_numbers one other accounts cap stopped same sites is = record {
   of_inverters = record {
-    count = is.of_inverters.count ∙ sites;
-    each = λ inverter otherwise within.
-        let its : inverter < inverters one.site = omega (arith, within, sites) in
-        same_account one other inverter (get_or accounts inverter otherwise) same its sites (is.of_inverters.each inverter otherwise its);
+    count = length-map site.units first_account;
+    each = λ inverter otherwise of_site. first_is_account site start inverter otherwise of_site;
   };
-  in_force = is.in_force ∙ ap (λ (carry : CarryRecord). carry.cap) same;
-  stop = is.stop ∙ ap (λ (carry : CarryRecord). carry.stop) same;
+  in_force = sym (cap_of-empty (empty_book site start));
+  stop = refl;
 }
-
--- a ledger at its last moment is at that of the life
-pub at_last_is : (ledger : LedgerRecord) → IsAtLast ledger → (before : List Entry) → IsBehind before ledger.book → ledger.at ≡ now_of (book_behind before ledger.book)
-at_last_is ledger is before behind = is.last ∙ last_moment_of-is ledger.book before behind
-
--- the next book begins at the last moment of the one before
-pub rolled_last : (book next : PartRecord) (now : ℕ) → IsKept book → now ≡ last_moment_of book → ((before : List Entry) → IsBehind before book → Rolls before book next)
-    → now ≡ last_moment_of next
-unfolding latest
-rolled_last book next now kept last rolls =
-    last ∙ last_moment_of-is book kept.of_life.before kept.of_life.behind ∙ ap last_moment_of (sym (rolls kept.of_life.before kept.of_life.behind).begins)
-
--- what the ledger keeps of a book is what it keeps of the next one of the life
-pub rolled_ledger : (book next : PartRecord) (now : ℕ) (accounts : List Account) (cap : ℕ) (stopped : Bool) → IsLedger book now accounts cap stopped
-    → now ≡ last_moment_of book → IsKept next → ((before : List Entry) → IsBehind before book → Rolls before book next) → IsLedger next now accounts cap stopped
-unfolding now_of latest
-rolled_ledger book next now accounts cap stopped ledger last kept rolls =
-    let before = ledger.kept.of_life.before in
-    let behind = ledger.kept.of_life.behind in
-    let begins = (rolls before behind).begins in
-    let whole = book_behind before book in
-    let now_is : now ≡ now_of whole = last ∙ last_moment_of-is book before behind in
-    let site : next.site ≡ book.site = ap (λ (b : PartRecord). b.site) begins in
-    record {
-      kept = kept;
-      later = omega (arith, now_is, ap last_moment_of begins);
-      high = ledger.high;
-      count = ledger.count ∙ ap inverters (sym site);
-      of_lives = λ others on.
-          let carry : carry_of whole ≡ carry_of (book_before others next) = carry_is next others (carry_of whole) on (ap (λ (b : PartRecord). b.carry) begins) in
-          let numbers = same_numbers whole (book_before others next) accounts cap stopped carry (ap inverters (sym site))
-          (subst (λ (at : ℕ). AreNumbers whole at accounts cap stopped) now_is (ledger.of_lives before behind)) in
-          let joined : book_before others next ≡ book_behind others next =
-          ap (λ (es : List Entry). with_entries (book_before others next) es) (sym (append-nil others) ∙ ap (λ (b : PartRecord). others ++ b.entries) (sym begins)) in
-          subst (λ (at : ℕ). AreNumbers (book_behind others next) at accounts cap stopped) (sym now_is)
-          (subst (λ (b : BookRecord). AreNumbers b (now_of whole) accounts cap stopped) joined numbers);
-    }
 
 -- the numbers of an inverter's unit
 pub numbers_of : (site : SiteRecord) (inverter : ℕ) (unit : Inverter) → slice_get site.units inverter ≡ Some unit → IsUnit site inverter unit
@@ -365,3 +208,131 @@ numbers_of site inverter unit is = record {
   mw = mw_at-is site inverter unit is;
   raw = raw_at-is site inverter unit is;
 }
+
+-- a part with one more entry is behind the same entries as without it
+without_one : (before : List Entry) (part : PartRecord) (entry : Entry) → IsBehind before (with_one part entry) → IsBehind before part
+without_one before part entry is =
+    subst (λ (es : List Entry). IsBehind before (record { site = part.site; start = part.start; carry = part.carry; entries = es }))
+    (take-append_seam part.entries (entry ∷ [])) (IsBehind-first (with_one part entry) before (length part.entries) is)
+
+-- what the ledger keeps of the lives that go on in a book: at a later moment, and after one more entry
+pub later_of : (part : PartRecord) (now later : ℕ) (accounts others : List Account) (cap : ℕ) (stopped : Bool) → now ≤ later → later ≤ MOMENT_MAX
+    → others ≡ map (account_at part.site.rules later) accounts → IsLedgerOf part now accounts cap stopped → IsLedgerOf part later others cap stopped
+later_of part now later accounts others cap stopped le high are ledger = record {
+  of_life = ledger.of_life;
+  later = omega (arith, ledger.later);
+  high = high;
+  count = ap (λ (all : List Account). length all) are ∙ length-map accounts (account_at part.site.rules later) ∙ ledger.count;
+  each = λ before is. later_ledger (book_behind before part) now later accounts others cap stopped le high are (ledger.each before is);
+}
+
+-- an entry that may stand behind those of a part
+pub record MayFollow (part : PartRecord) (now : ℕ) (entry : Entry) : Type 0 where
+  pub calls : calls_of part < CALLS_MAX
+  pub next : IsNext part.site (begin_of part) part.entries entry.call
+  pub answer : EachBefore part (λ before. IsAnswer (book_behind before part) (before ++ part.entries) entry)
+  pub at_once : moment entry.call ≡ now
+
+pub may_enter : (part : PartRecord) (now : ℕ) (entry : Entry) (before : List Entry) → MayFollow part now entry → IsBehind before part → MayEnter (book_behind before part) now entry
+unfolding now_of
+may_enter part now entry before may is = record {
+  calls = omega (arith, may.calls, calls_of-is part before is);
+  next = record { later = omega (arith, may.next.later, last_moment_of-is part before is); moment_high = may.next.moment_high; of_site = may.next.of_site; in_range = may.next.in_range };
+  answer = may.answer before is;
+  at_once = may.at_once;
+}
+
+pub next_of : (part : PartRecord) (entry : Entry) (now : ℕ) (accounts others : List Account) (cap : ℕ) (stopped : Bool) → IsLedgerOf part now accounts cap stopped → MayFollow part now entry
+    → length others ≡ length accounts → ((before : List Entry) → Follow (book_behind before part) entry accounts others) → (in_force : ℕ) (after : Bool)
+    → in_force ≡ cond (sets_cap entry) (cap_by cap entry.call) cap → after ≡ (stopped || stops entry.call) → IsLedgerOf (with_one part entry) now others in_force after
+next_of part entry now accounts others cap stopped ledger may count follow in_force after set stop =
+    let through : (before : List Entry) → (before ++ part.entries) ++ entry ∷ [] ≡ before ++ (part.entries ++ entry ∷ []) = λ before. append_assoc before part.entries (entry ∷ []) in
+    let step : (before : List Entry) → IsBehind before part → IsLedger (with_entry (book_behind before part) entry) now others in_force after =
+    λ before is. next_ledger (book_behind before part) entry now accounts others cap stopped (ledger.each before is) (may_enter part now entry before may is) (follow before) in_force after set stop in
+    let first = ledger.of_life.before in
+    let behind = ledger.of_life.behind in
+    record {
+      of_life = record { before = first; behind = record { carry = behind.carry; book = subst (λ (es : List Entry). IsBook (with_entries (book_behind first part) es)) (through first) (step first behind).kept } };
+      later = omega (arith, latest-push (begin_of part) part.entries entry, may.at_once);
+      high = ledger.high;
+      count = count ∙ ledger.count;
+      each = λ before is. subst (λ (es : List Entry). IsLedger (with_entries (book_behind before part) es) now others in_force after) (through before) (step before (without_one before part entry is));
+    }
+
+-- what the ledger keeps of a life without calls
+pub first_of : (site : SiteRecord) (start : ℕ) → IsOpenable site → start ≤ MOMENT_MAX
+    → IsLedgerOf (record { site = site; start = start; carry = None; entries = [] }) start (map first_account site.units) site.cap false
+unfolding latest
+first_of site start openable low = record {
+  of_life = record { before = []; behind = record { carry = refl; book = IsBook-empty site start openable low } };
+  later = omega arith;
+  high = low;
+  count = length-map site.units first_account;
+  each = λ before is.
+      let none = nothing_before (record { site = site; start = start; carry = None; entries = [] }) before is refl in
+      subst (λ (es : List Entry). IsLedger (record { site = site; start = start; entries = es ++ [] }) start (map first_account site.units) site.cap false) (sym none) (first_ledger site start openable low);
+}
+
+-- A book that leaves the same has the same numbers.
+module _ (whole other : BookRecord) (sites : other.site ≡ whole.site) (carries : carry_of whole ≡ carry_of other) where
+  same_unit : (inverter : ℕ) → inverter < inverters whole.site → unit_of whole inverter ≡ unit_of other inverter
+  same_unit inverter of_site =
+      let units = ap (λ (carry : CarryRecord). get_or carry.units inverter (unit_of whole inverter)) carries in
+      sym (get_or-map-range_with_len (unit_of whole) 0 (inverters whole.site) inverter inverter (unit_of whole inverter) of_site (omega arith))
+      ∙ units
+      ∙ get_or-map-range_with_len (unit_of other) 0 (inverters other.site) inverter inverter (unit_of whole inverter) (omega (arith, of_site, ap (λ (site : SiteRecord). inverters site) sites)) (omega arith)
+
+  same_account : (now inverter : ℕ) (account : Account) → now ≡ now_of whole → inverter < inverters whole.site → IsAccount whole now inverter account → IsAccount other now inverter account
+  same_account now inverter account last of_site its =
+      let same = same_unit inverter of_site in
+      let at : now_of other ≡ now = sym (last ∙ ap (λ (carry : CarryRecord). carry.last) carries) in
+      record {
+        link = its.link ∙ ap (λ (unit : UnitRecord). unit.link) same;
+        requests = its.requests ∙ ap (λ (unit : UnitRecord). unit.sent) same;
+        pending = its.pending ∙ ap (λ (unit : UnitRecord). unit.pending) same;
+        strange = its.strange ∙ ap (λ (unit : UnitRecord). unit.strange) same;
+        wish = its.wish ∙ ap (λ (unit : UnitRecord). unit.wish) same;
+        live = its.live ∙ ap (λ (n : ℕ). live whole.site.rules whole.entries n inverter) last ∙ ap (λ (unit : UnitRecord). unit.writes) same ∙ ap (λ (n : ℕ). live other.site.rules other.entries n inverter) at;
+      }
+
+  same_ledger : (now : ℕ) (accounts : List Account) (cap : ℕ) (stopped : Bool) → now ≡ now_of whole → IsBook other → IsLedger whole now accounts cap stopped → IsLedger other now accounts cap stopped
+  same_ledger now accounts cap stopped last kept ledger = record {
+    kept = kept;
+    later = omega (arith, last, ap (λ (carry : CarryRecord). carry.last) carries);
+    high = ledger.high;
+    of_inverters = record {
+      count = ledger.of_inverters.count ∙ sym (ap (λ (site : SiteRecord). inverters site) sites);
+      each = λ inverter otherwise of_site.
+          let within : inverter < inverters whole.site = omega (arith, of_site, ap (λ (site : SiteRecord). inverters site) sites) in
+          same_account now inverter (get_or accounts inverter otherwise) last within (ledger.of_inverters.each inverter otherwise within);
+    };
+    in_force = ledger.in_force ∙ ap (λ (carry : CarryRecord). carry.cap) carries;
+    stop = ledger.stop ∙ ap (λ (carry : CarryRecord). carry.stop) carries;
+  }
+
+-- the same numbers are kept over a roll
+pub rolled_of : (part next : PartRecord) (now : ℕ) (accounts : List Account) (cap : ℕ) (stopped : Bool) → IsLedgerOf part now accounts cap stopped → now ≡ last_moment_of part
+    → EachBefore part (λ before. Rolls before part next) → IsLedgerOf next now accounts cap stopped × (now ≡ last_moment_of next)
+unfolding latest
+rolled_of part next now accounts cap stopped ledger last rolls =
+    let first = ledger.of_life.before in
+    let behind = ledger.of_life.behind in
+    let whole = book_behind first part in
+    let roll = rolls first behind in
+    let made = next_book first part in
+    let at : now ≡ now_of whole = last ∙ last_moment_of-is part first behind in
+    subst (λ (book : PartRecord). IsLedgerOf book now accounts cap stopped × (now ≡ last_moment_of book)) (sym roll.begins) (
+      record {
+        of_life = record { before = first ++ part.entries; behind = subst (IsBehind (first ++ part.entries)) roll.begins roll.answered };
+        later = omega (arith, at);
+        high = ledger.high;
+        count = ledger.count;
+        each = λ before is.
+            let other = book_before before made in
+            let all : before ++ [] ≡ before = append-nil before in
+            let kept : IsBook other = subst (λ (es : List Entry). IsBook (with_entries whole es)) all is.book in
+            subst (λ (es : List Entry). IsLedger (with_entries whole es) now accounts cap stopped) (sym all)
+            (same_ledger whole other refl (carry_is made before (carry_of whole) is refl) now accounts cap stopped at kept (ledger.each first behind));
+      },
+      at,
+    )

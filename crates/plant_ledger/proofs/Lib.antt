@@ -2,5 +2,5 @@ pub mod Accounts
 pub mod Fitting
 pub mod Following
 pub mod Kept
-pub mod Lives
 pub mod Sights
+pub mod Lives

@@ -26,7 +26,14 @@ pub record IsAccount (book : BookRecord) (now inverter : ℕ) (account : Account
 
 -- the account of an inverter that no call named: it wishes for its rating
 abbrev pub first_account : Inverter → Account
-first_account unit = record { link = 0; requests = 0; pending = None; strange = false; wish = rated unit.rating; live = [] }
+first_account unit = record {
+  link = 0;
+  requests = 0;
+  pending = None;
+  strange = false;
+  wish = rated unit.rating;
+  live = [];
+}
 
 -- a grant answers an Ask of the write's inverter, and a numbered read a Read of its own
 abbrev pub IsReplyTo : Call → Reply → Type 0
@@ -50,17 +57,23 @@ after_ask (replies.Granted write) account =
 after_ask _ account = account
 
 abbrev pub after_read : Reply → Account → Account
-after_read (replies.ReadAs read) account = record account { requests = account.requests + 1; pending = Some read }
+after_read (replies.ReadAs read) account =
+    record account { requests = account.requests + 1; pending = Some read }
 after_read _ account = account
 
 abbrev pub after_saw : Rules → ℕ → Reply → Account → Account
 after_saw rules raw (replies.Freed count reserved) account =
-    record account { pending = None; strange = false; live = without (writes.frees rules account.pending raw) account.live }
+    record account {
+      pending = None;
+      strange = false;
+      live = without (writes.frees rules account.pending raw) account.live;
+    }
 after_saw rules raw (replies.Strange seen) account = record account { pending = None; strange = true }
 after_saw rules raw _ account = account
 
 abbrev pub after_back : ℕ → ℕ → Reply → Account → Account
-after_back link number replies.Taken account = record account { live = without (has_numbers link number) account.live }
+after_back link number replies.Taken account =
+    record account { live = without (has_numbers link number) account.live }
 after_back link number _ account = account
 
 abbrev pub after_call : Rules → Call → Reply → Account → Account

@@ -1,4 +1,4 @@
--- A book and what the ledger keeps beside it.
+-- A book of a life and what the ledger keeps beside it.
 use Rattle.std.specs.Prelude.{◌≡◌, ℕ, ◌<◌, ◌≤◌, Bool, List, length, map, slice_index_or}
 use Rattle.limiter_num.specs.declared.rules.Rules.{Rules}
 use Rattle.limiter_num.specs.Rating as rating
@@ -6,10 +6,12 @@ use Rattle.plant_book.specs.declared.call.TheConstants.{MOMENT_MAX}
 use Rattle.plant_book.specs.declared.site.Unit.{Unit as Inverter}
 use Rattle.plant_book.specs.Site.{SiteRecord, inverters, mw_at, floor_at, floor_raw_at, full_at, rated_at, raw_at}
 use Rattle.plant_book.specs.Book.{BookRecord}
-use Rattle.plant_book.specs.Caps.{cap_of}
 use Rattle.plant_book.specs.Part.{PartRecord, last_moment_of}
-use Rattle.plant_book.specs.Carry.{EachBook}
+use Rattle.plant_book.specs.Carry.{IsBookPart, EachBook}
+use Rattle.plant_book.specs.Caps.{cap_of}
+use Rattle.plant_book.specs.Reserved.{now_of}
 use Rattle.plant_book.specs.Answer.{is_stopped}
+use Rattle.plant_book.specs.Answered.{IsBook}
 use Rattle.uncertain_writes.specs.Live.{is_past, without}
 use Rattle.plant_ledger.specs.declared.account.Account.{Account}
 use Rattle.plant_ledger.specs.Account.{IsAccount}
@@ -35,19 +37,24 @@ pub record AreAccounts (book : BookRecord) (now : ℕ) (accounts : List Account)
   pub each : (inverter : ℕ) (otherwise : Account) → inverter < inverters book.site
       → IsAccount book now inverter (slice_index_or accounts inverter otherwise)
 
--- what the ledger keeps are the numbers of this joined book
-pub record AreNumbers (book : BookRecord) (now : ℕ) (accounts : List Account) (cap : ℕ) (stopped : Bool) : Type 0 where
+-- what the ledger keeps are the numbers of its book
+pub record IsLedger (book : BookRecord) (now : ℕ) (accounts : List Account) (cap : ℕ) (stopped : Bool)
+    : Type 0 where
+  pub kept : IsBook book
+  pub later : now_of book ≤ now
+  pub high : now ≤ MOMENT_MAX
   pub of_inverters : AreAccounts book now accounts
   pub in_force : cap ≡ cap_of book
   pub stop : stopped ≡ is_stopped book
 
--- what the ledger keeps are the numbers of each life whose last book it has
-pub record IsLedger (book : PartRecord) (now : ℕ) (accounts : List Account) (cap : ℕ) (stopped : Bool) : Type 0 where
-  pub kept : IsKept book
-  pub later : last_moment_of book ≤ now
+-- what the ledger keeps are the numbers of each life whose last book this is
+pub record IsLedgerOf (part : PartRecord) (now : ℕ) (accounts : List Account) (cap : ℕ) (stopped : Bool)
+    : Type 0 where
+  pub of_life : IsBookPart part
+  pub later : last_moment_of part ≤ now
   pub high : now ≤ MOMENT_MAX
-  pub count : length accounts ≡ inverters book.site
-  pub of_lives : EachBook book (λ whole. AreNumbers whole now accounts cap stopped)
+  pub count : length accounts ≡ inverters part.site
+  pub each : EachBook part (λ whole. IsLedger whole now accounts cap stopped)
 
 -- an account at a later moment: what is past by then is gone
 abbrev pub account_at : Rules → ℕ → Account → Account

@@ -7,7 +7,8 @@ use limiter_num::Rules;
 use plant_book::{Call, Entry, Read, Reply, Unit};
 use uncertain_writes::Live;
 
-/// The account of one inverter: what the calls that named it have come to, so that no reply has to go through them.
+/// The account of one inverter: what the calls that named it have come to, so that no reply has to go
+/// through them.
 #[derive(Debug, Drop)]
 pub struct Account {
     /// The number of its link, or 0 where it had none yet.

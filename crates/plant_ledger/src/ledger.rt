@@ -1,26 +1,27 @@
-//! The last book of a life, and the account of each inverter.
-ghost use Rattle.std.specs.Prelude.{◌≡◌, ℕ, ◌<◌, ◌≤◌, ◌^◌, ◌||◌, if◌then◌else◌, [], ◌∷◌, ◌++◌, length, map, Some, None, IfOk, IfSome, slice_get, slice_set, slice_index_or};
+//! A book, and the account of each inverter.
+ghost use Rattle.std.specs.Prelude.{◌≡◌, ℕ, ◌<◌, ◌≤◌, ◌^◌, ◌||◌, ◌⊎◌, if◌then◌else◌, [], ◌∷◌, ◌++◌, length, map, Some, None, IfOk, IfErr, IfSome, OnOk, OnErr, slice_get, slice_set, slice_index_or};
 ghost use Rattle.plant_book.specs.Site.{inverters, floors};
 ghost use Rattle.plant_book.specs.Caps.{sets_cap, cap_by, cap_of};
 ghost use Rattle.plant_book.specs.Calls.{moment, named};
-ghost use Rattle.plant_book.specs.Answer.{silent_until, stops, is_stopped, reply_to};
-ghost use Rattle.plant_book.specs.Answered.{IsOpenable, IsNext};
-ghost use Rattle.plant_book.specs.Part.{begin_of, last_moment_of};
-ghost use Rattle.plant_book.specs.Carry.{EachBefore, EachBook};
+ghost use Rattle.plant_book.specs.Answer.{silent_until, stops, is_stopped};
+ghost use Rattle.plant_book.specs.Answered.{IsOpenable, IsNext, IsAnswer};
+ghost use Rattle.plant_book.specs.Part.{begin_of, calls_of, book_behind};
+ghost use Rattle.plant_book.specs.Carry.{IsBookPart, EachBefore, EachBook};
 ghost use Rattle.plant_ledger.specs.declared.account.Account.{Account as Kept};
 ghost use Rattle.plant_ledger.specs.Account.{IsAccount, HasRoom, first_account, after_call};
-ghost use Rattle.plant_ledger.specs.Ledger.{IsUnit, account_at};
-ghost use Rattle.plant_ledger.specs.Plant.{IsKept, Rolls};
+ghost use Rattle.plant_ledger.specs.Ledger.{IsUnit, IsAtLast, account_at};
+ghost use Rattle.plant_ledger.specs.Plant.{with_one, Rolls, IsFullLife};
 
 use crate::account::Account;
+use crate::rolling::{RollFault, next_book};
 use limiter_num::{NoMemory, Rules};
-use plant_book::{Book, Call, Entry, MOMENT_MAX, Policy, Reply, Site, Unit};
+use plant_book::{Book, CALLS_MAX, Call, Entry, MOMENT_MAX, Policy, Reply, Site, Unit};
 use std::alloc::Global;
 use std::marker::Model;
 use std::mem;
 
-/// The last book of a life, with the account of each inverter at a moment from its last one on, so that no reply walks
-/// the entries.
+/// A book with the account of each inverter at a moment from its last one on, so that no reply walks the
+/// entries.
 #[derive(Debug, Drop)]
 pub struct Ledger {
     book: Book,
@@ -31,13 +32,13 @@ pub struct Ledger {
 }
 
 impl Model for Ledger {
-    ghost use Rattle.plant_ledger.specs.Ledger.{LedgerRecord, IsLedger};
+    ghost use Rattle.plant_ledger.specs.Ledger.{LedgerRecord, IsLedgerOf};
 
     ghost Value = { LedgerRecord };
 
     ghost view = { λ l. record { book = l.book; at = l.moment } };
 
-    ghost invariant = { λ l. IsLedger l.book l.moment l.accounts.items l.cap l.stopped };
+    ghost invariant = { λ l. IsLedgerOf l.book l.moment l.accounts.items l.cap l.stopped };
 }
 
 impl Ledger {
@@ -76,13 +77,12 @@ impl Ledger {
     /// Writes one more entry of this moment at the end, and keeps the accounts.
     pub fn enter(&mut self, entry: Entry)
         requires room { length self.old.book.entries < self.old.book.site.room }
+        requires life { calls_of self.old.book < CALLS_MAX }
         requires next { IsNext self.old.book.site (begin_of self.old.book) self.old.book.entries entry.call }
-        requires answer { EachBook self.old.book (λ whole. entry.reply ≡ reply_to whole entry.call) }
+        requires answer { EachBefore self.old.book
+            (λ before. IsAnswer (book_behind before self.old.book) (before ++ self.old.book.entries) entry) }
         requires now { moment entry.call ≡ self.old.at }
-        ensures { self.new ≡ record {
-          book = record self.old.book { entries = self.old.book.entries ++ entry ∷ [] };
-          at = self.old.at;
-        } }
+        ensures { self.new ≡ record { book = with_one self.old.book entry; at = self.old.at } }
     {
         let rules = rules_of(&self.book);
         follow(&mut self.accounts, &rules, &entry);
@@ -91,21 +91,28 @@ impl Ledger {
         self.book.push(entry);
     }
 
-    /// Goes on with the next book of the life, and hands the ended one out. The accounts are those of the life.
-    pub fn go_on(&mut self, next: Book) -> Book
-        requires last { self.old.at ≡ last_moment_of self.old.book }
-        requires kept { IsKept next }
-        requires rolls { EachBefore self.old.book (λ before. Rolls before self.old.book next) }
-        ensures ended { result ≡ self.old.book }
-        ensures begun { self.new ≡ record { book = next; at = self.old.at } }
+    /// Ends the book, hands it out, and goes on with an empty one that begins with what the life leaves.
+    /// After a refusal all is as before.
+    pub fn roll(&mut self, alloc: Global) -> Result<Book, RollFault>
+        requires { IsAtLast self.old }
+        ensures ended { IfOk result (λ ended. ended ≡ self.old.book) }
+        ensures lives { OnOk result (EachBefore self.old.book
+            (λ before. Rolls before self.old.book self.new.book)) }
+        ensures unfilled { OnOk result (¬ IsFullLife self.old.book) }
+        ensures refused { IfErr result (λ fault.
+            (IsFullLife self.old.book × (fault ≡ RollFault.LifeFull (calls_of self.old.book)))
+            ⊎ ((¬ IsFullLife self.old.book) × (fault ≡ RollFault.NoMemory))) }
+        ensures unchanged { OnErr result (self.new ≡ self.old) }
+        ensures kept { IsAtLast self.new }
     {
-        mem::replace(&mut self.book, next)
+        let next = next_book(alloc, &self.book)?;
+        Ok(mem::replace(&mut self.book, next))
     }
 
     /// The book.
     pub fn book(&self) -> &Book
         ensures book { result.now ≡ self.now.book }
-        ensures kept { IsKept self.now.book }
+        ensures kept { IsBookPart self.now.book }
     {
         &self.book
     }
@@ -113,7 +120,7 @@ impl Ledger {
     /// How many inverters the site has.
     pub fn inverters(&self) -> u8
         ensures count { result ≡ inverters self.now.book.site }
-        ensures kept { IsKept self.now.book }
+        ensures of_life { IsBookPart self.now.book }
     {
         self.accounts.len() as u8
     }
@@ -185,7 +192,7 @@ impl Ledger {
     pub fn account(&self, inverter: u8) -> &Account
         requires { inverter < inverters self.now.book.site }
         ensures account { EachBook self.now.book (λ whole. IsAccount whole self.now.at inverter result.now) }
-        ensures kept { IsKept self.now.book }
+        ensures links { calls_of self.now.book < CALLS_MAX → result.now.link < 4294967295 }
     {
         &self.accounts[usize::from(inverter)]
     }
@@ -262,7 +269,8 @@ fn follow(accounts: &mut [Account], rules: &Rules, entry: &Entry)
         → HasRoom entry.now.reply (slice_index_or accounts.old inverter otherwise) }
     ensures named { (inverter : ℕ) (otherwise : Kept) → named entry.now.call ≡ Some inverter
         → accounts.new ≡ slice_set accounts.old inverter
-        (after_call rules.now entry.now.call entry.now.reply (slice_index_or accounts.old inverter otherwise)) }
+        (after_call rules.now entry.now.call entry.now.reply
+        (slice_index_or accounts.old inverter otherwise)) }
     ensures unnamed { named entry.now.call ≡ None → accounts.new ≡ accounts.old }
 {
     if let Some(inverter) = entry.call.inverter() {

@@ -17,7 +17,7 @@ ghost use Rattle.plant_ledger.specs.Plant.{IsKept, entered, IsSafeLife, GoesOn, 
 use crate::entering::enter;
 use crate::ledger::Ledger;
 use crate::opening::{OpenFault, refuse};
-use crate::rolling::{RollFault, next_book};
+use crate::rolling::RollFault;
 use crate::ticket::{Ticket, ticket_with};
 use limiter_num::NoMemory;
 use plant_book::{Book, Call, Carry, Entry, MOMENT_MAX, Reply, Site, Write, ceiling_plain};
@@ -89,10 +89,11 @@ impl Plant {
             ⊎ ((fault ≡ OpenFault.NoMemory) × (open_fault site ≡ None))) }
     {
         refuse(&site)?;
-        match Ledger::new(alloc, site, start) {
-            Ok(ledger) => Ok(Plant { ledger }),
-            Err(NoMemory) => Err(OpenFault::NoMemory),
-        }
+        let ledger = match Ledger::new(alloc, site, start) {
+            Ok(ledger) => ledger,
+            Err(NoMemory) => return Err(OpenFault::NoMemory),
+        };
+        Ok(Plant { ledger })
     }
 
     /// Enters a call with the greater of its moment and the last moment, and answers it. A Want wishes for at
@@ -105,8 +106,8 @@ impl Plant {
         ensures entered { IfOk result (λ outcome. self.new ≡ entered self.old call outcome.reply) }
         ensures ticket { IfOk result (λ outcome. outcome.ticket ≡ ticket_for outcome.reply) }
 
-        // Of each life whose last book this is: the reply is the one that the joined book asks for, and the life
-        // goes on.
+        // Of each life whose last book this is: the reply is the one that the joined book asks for, and the
+        // life goes on.
         ensures lives { IfOk result (λ outcome. EachBefore self.old
             (λ before. GoesOn before self.old call outcome.reply self.new)) }
 
@@ -115,9 +116,9 @@ impl Plant {
         ensures full { IfErr result (λ full. (full.calls ≡ length self.old.entries)
             × (full.calls ≡ self.old.site.room) × (self.new ≡ self.old)) }
 
-        // Of each life whose last book is the new one: what is reserved in all stays under the ceiling, the site's
-        // cap through the silence, and within reach of a lowering what was reserved right after it. Past that it is
-        // back under the cap.
+        // Of each life whose last book is the new one: what is reserved in all stays under the ceiling, the
+        // site's cap through the silence, and within reach of a lowering what was reserved right after it.
+        // Past that it is back under the cap.
         ensures kept { IsKept self.new }
         ensures capped { EachBook self.new IsUnderCeiling }
         ensures back { EachBook self.new IsBackUnderCap }
@@ -125,8 +126,8 @@ impl Plant {
         // Behind the silence, and in the first life of a plant, what an inverter may hold is reserved for it.
         ensures covered { EachBook self.new CoversHeld }
 
-        // Whatever past that fits the life followed, and whatever inverters did that follow the timed device. And no
-        // ledger that knows only the calls could free a write sooner.
+        // Whatever past that fits the life followed, and whatever inverters did that follow the timed device.
+        // And no ledger that knows only the calls could free a write sooner.
         ensures safe { EachBook self.new IsSafeLife }
         ensures tight { EachBook self.new IsTight }
     {
@@ -142,8 +143,7 @@ impl Plant {
     }
 
     /// Gives back a write that was not sent and never will be: the Back of the ticket's write. A full book
-    /// hands the
-    /// ticket back.
+    /// hands the ticket back.
     pub fn release(&mut self, ticket: Ticket, at: u64) -> Result<Reply, (BookFull, Ticket)>
         requires moment { at ≤ MOMENT_MAX }
         requires of_site { ticket.inverter < inverters self.old.site }
@@ -200,8 +200,7 @@ impl Plant {
         ensures safe { EachBook self.new IsSafeLife }
         ensures tight { EachBook self.new IsTight }
     {
-        let next = next_book(alloc, self.ledger.book())?;
-        Ok(self.ledger.go_on(next))
+        self.ledger.roll(alloc)
     }
 
     /// What the books of the life before this one left, or nothing where it is the first.
@@ -248,7 +247,7 @@ impl Plant {
         self.ledger.cap()
     }
 
-    /// What all limits together stay under at the last moment, in mW, also right behind a lowering of the cap.
+    /// What all limits together stay under at the last moment, in mW, also right behind a lowering.
     pub fn ceiling(&self) -> u64
         ensures { EachBook self.now (λ whole. result ≡ ceiling whole) }
     {

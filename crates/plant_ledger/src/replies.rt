@@ -3,23 +3,21 @@ ghost use Rattle.std.specs.Prelude.{◌≡◌, ◌<◌, IfSome, Some};
 ghost use Rattle.plant_book.specs.Calls.{moment, named};
 ghost use Rattle.plant_book.specs.Site.{inverters};
 ghost use Rattle.plant_book.specs.Writes.{live};
-ghost use Rattle.plant_book.specs.Reserved.{now_of};
-ghost use Rattle.plant_book.specs.Part.{calls_of};
+ghost use Rattle.plant_book.specs.Part.{last_moment_of, calls_of};
 ghost use Rattle.plant_book.specs.Carry.{EachBook};
-ghost use Rattle.plant_book.specs.declared.carry.TheConstants.{CALLS_MAX};
 ghost use Rattle.plant_book.specs.Answer as rule;
 
 use crate::ledger::Ledger;
 use crate::reserved::covering;
-use plant_book::{Call, REQUESTS_MAX, Read, Reply, Unit, Write};
+use plant_book::{CALLS_MAX, Call, REQUESTS_MAX, Read, Reply, Unit, Write};
 use uncertain_writes::Live;
 
 impl Ledger {
     /// The reply to a call of this moment.
     pub fn answer(&self, call: &Call) -> Reply
         requires now { moment call.now ≡ self.now.at }
-        requires calls { calls_of self.now.book < CALLS_MAX }
         requires of_site { IfSome (named call.now) (λ inverter. inverter < inverters self.now.book.site) }
+        requires life { calls_of self.now.book < CALLS_MAX }
         ensures { EachBook self.now.book (λ whole. result ≡ rule.reply_to whole call.now) }
     {
         match *call {
@@ -48,7 +46,7 @@ impl Ledger {
     #[tactic(auto, unfolding(plant_book::specs::Answer::goal_raw))]
     pub fn goal(&self, inverter: u8) -> u16
         requires of_site { inverter < inverters self.now.book.site }
-        requires last { EachBook self.now.book (λ whole. self.now.at ≡ now_of whole) }
+        requires last { self.now.at ≡ last_moment_of self.now.book }
         ensures { EachBook self.now.book (λ whole. result ≡ rule.goal_raw whole inverter) }
     {
         let most = self.reserved(inverter) + self.unreserved();
@@ -60,7 +58,8 @@ impl Ledger {
     #[tactic(auto, unfolding(plant_book::specs::Answer::reply_to_ask))]
     fn reply_to_ask(&self, inverter: u8, raw: u16) -> Reply
         requires { inverter < inverters self.now.book.site }
-        ensures { EachBook self.now.book (λ whole. result ≡ rule.reply_to_ask whole self.now.at inverter raw) }
+        ensures { EachBook self.now.book
+            (λ whole. result ≡ rule.reply_to_ask whole self.now.at inverter raw) }
     {
         let account = self.account(inverter);
         if account.link == 0 {
@@ -79,14 +78,15 @@ impl Ledger {
         self.reply_by_policy(&write)
     }
 
-    /// The reply to an Ask on a link with requests left: the policy has to allow it, and the silence to be over.
+    /// The reply to an Ask on a link with requests left: the policy has to allow it, and the silence to be
+    /// over.
     #[tactic(auto, unfolding(plant_book::specs::Answer::reply_by_policy))]
     fn reply_by_policy(&self, write: &Write) -> Reply
         requires of_site { write.now.inverter < inverters self.now.book.site }
         requires write { EachBook self.now.book (λ whole.
             write.now ≡ rule.write_at whole self.now.at write.now.inverter write.now.raw) }
-        ensures { EachBook self.now.book (λ whole.
-            result ≡ rule.reply_by_policy whole self.now.at write.now.inverter write.now.raw) }
+        ensures { EachBook self.now.book
+            (λ whole. result ≡ rule.reply_by_policy whole self.now.at write.now.inverter write.now.raw) }
     {
         let rating = &self.unit(write.inverter).rating;
         let full = rating.full();
@@ -104,14 +104,15 @@ impl Ledger {
         self.reply_by_watts(write)
     }
 
-    /// The reply to an Ask that the policy allows: unreserved watts and room for one more live write are wanted.
+    /// The reply to an Ask that the policy allows: unreserved watts and room for one more live write are
+    /// wanted.
     #[tactic(auto, unfolding(plant_book::specs::Answer::reply_by_watts))]
     fn reply_by_watts(&self, write: &Write) -> Reply
         requires of_site { write.now.inverter < inverters self.now.book.site }
         requires write { EachBook self.now.book (λ whole.
             write.now ≡ rule.write_at whole self.now.at write.now.inverter write.now.raw) }
-        ensures { EachBook self.now.book (λ whole.
-            result ≡ rule.reply_by_watts whole self.now.at write.now.inverter write.now.raw) }
+        ensures { EachBook self.now.book
+            (λ whole. result ≡ rule.reply_by_watts whole self.now.at write.now.inverter write.now.raw) }
     {
         let unreserved = self.unreserved();
         let reserved = self.reserved(write.inverter);
@@ -149,7 +150,8 @@ impl Ledger {
     /// The reply to a Saw: a pending read of this number is wanted.
     fn reply_to_saw(&self, inverter: u8, number: u16, raw: u16) -> Reply
         requires { inverter < inverters self.now.book.site }
-        ensures { EachBook self.now.book (λ whole. result ≡ rule.reply_to_saw whole self.now.at inverter number raw) }
+        ensures { EachBook self.now.book
+            (λ whole. result ≡ rule.reply_to_saw whole self.now.at inverter number raw) }
     {
         match self.account(inverter).pending {
             Some(read) if read.number == number => self.reply_to_sight(inverter, &read, raw),
@@ -157,11 +159,13 @@ impl Ledger {
         }
     }
 
-    /// The reply to a Saw of the pending read: its raw percentage has to be the floor's or that of a live write.
+    /// The reply to a Saw of the pending read: its raw percentage has to be the floor's or that of a live
+    /// write.
     fn reply_to_sight(&self, inverter: u8, read: &Read, raw: u16) -> Reply
         requires { inverter < inverters self.now.book.site }
-        ensures { EachBook self.now.book (λ whole. result ≡ rule.reply_to_sight self.now.book.site inverter
-            (Some read.now) raw (live self.now.book.site.rules whole.entries self.now.at inverter)) }
+        ensures { EachBook self.now.book (λ whole.
+            result ≡ rule.reply_to_sight whole.site inverter (Some read.now) raw
+            (live whole.site.rules whole.entries self.now.at inverter)) }
     {
         let live = &self.account(inverter).live;
         if !is_known(self.unit(inverter), live, raw) {
@@ -177,7 +181,8 @@ impl Ledger {
     /// The reply to a Back: a live write of these numbers is wanted.
     fn reply_to_back(&self, inverter: u8, link: u32, number: u16) -> Reply
         requires { inverter < inverters self.now.book.site }
-        ensures { EachBook self.now.book (λ whole. result ≡ rule.reply_to_back whole self.now.at inverter link number) }
+        ensures { EachBook self.now.book
+            (λ whole. result ≡ rule.reply_to_back whole self.now.at inverter link number) }
     {
         if self.account(inverter).live.holds(link, number) {
             Reply::Taken

@@ -2,8 +2,8 @@
 ghost use Rattle.std.specs.Prelude.{◌≡◌, ◌≤◌, ◌<◌, ◌*◌, ◌^◌, fold, map, max};
 ghost use Rattle.limiter_num.specs.Rating.{mw};
 ghost use Rattle.plant_book.specs.Site.{inverters};
-ghost use Rattle.plant_book.specs.Carry.{EachBook};
 ghost use Rattle.plant_book.specs.Reserved as sums;
+ghost use Rattle.plant_book.specs.Carry.{EachBook};
 
 use crate::ledger::Ledger;
 use plant_book::Unit;
@@ -14,7 +14,8 @@ impl Ledger {
     #[tactic(auto, unfolding(plant_book::specs::Reserved::reserved_at))]
     pub fn reserved(&self, inverter: u8) -> u64
         requires of_site { inverter < inverters self.now.book.site }
-        ensures watts { EachBook self.now.book (λ whole. result ≡ sums.reserved_at whole self.now.at inverter) }
+        ensures watts { EachBook self.now.book
+            (λ whole. result ≡ sums.reserved_at whole self.now.at inverter) }
         ensures below { result ≤ 65535 * 10 ^ 12 }
     {
         covering(self.unit(inverter), &self.account(inverter).live)

@@ -1,9 +1,9 @@
 //! What the policy allows, by the accounts.
-ghost use Rattle.std.specs.Prelude.{◌≡◌, ℕ, ◌<◌, if◌then◌else◌};
+ghost use Rattle.std.specs.Prelude.{◌≡◌, ◌<◌, if◌then◌else◌};
 ghost use Rattle.limiter_num.specs.Rating.{mw, rated};
 ghost use Rattle.plant_book.specs.Site.{inverters};
-ghost use Rattle.plant_book.specs.Carry.{EachBook};
 ghost use Rattle.plant_book.specs.Caps.{cap_of};
+ghost use Rattle.plant_book.specs.Carry.{IsBookPart, EachBook};
 ghost use Rattle.share_policy.specs.Claims.{IsFeasible};
 ghost use Rattle.plant_book.specs.Policy as rule;
 
@@ -32,8 +32,8 @@ impl Ledger {
     /// The claims of all inverters in the order of their numbers.
     fn claims(&self) -> ArrayVec<Claim, INVERTERS_MAX>
         ensures claims { EachBook self.now.book (λ whole. result.items ≡ rule.claims whole) }
-        ensures feasible { (cap : ℕ) → EachBook self.now.book (λ whole. cap ≡ cap_of whole)
-            → IsFeasible cap result.items }
+        ensures feasible { EachBook self.now.book (λ whole. IsFeasible (cap_of whole) (rule.claims whole)) }
+        ensures of_life { IsBookPart self.now.book }
     {
         let mut claims = ArrayVec::new();
         for inverter in 0..self.inverters() {
@@ -75,8 +75,9 @@ impl Ledger {
     /// The same of all inverters in the order of their numbers.
     fn fall_claims(&self) -> ArrayVec<Claim, INVERTERS_MAX>
         ensures claims { result.items ≡ rule.fall_claims self.now.book.site }
-        ensures feasible { (cap : ℕ) → EachBook self.now.book (λ whole. cap ≡ cap_of whole)
-            → IsFeasible cap result.items }
+        ensures feasible { EachBook self.now.book
+            (λ whole. IsFeasible (cap_of whole) (rule.fall_claims whole.site)) }
+        ensures of_life { IsBookPart self.now.book }
     {
         let mut claims = ArrayVec::new();
         for inverter in 0..self.inverters() {
@@ -89,8 +90,8 @@ impl Ledger {
     #[tactic(auto, unfolding(plant_book::specs::Policy::fall_share))]
     fn fall_share(&self, inverter: u8) -> u64
         requires { inverter < inverters self.now.book.site }
-        ensures { EachBook self.now.book (λ whole.
-            result ≡ rule.fall_share self.now.book.site (cap_of whole) inverter) }
+        ensures { EachBook self.now.book
+            (λ whole. result ≡ rule.fall_share whole.site (cap_of whole) inverter) }
     {
         let level = level(self.cap(), self.fall_claims().as_slice());
         share_policy::target(Policy::Fair, level, &self.fall_claim(inverter))
@@ -113,7 +114,8 @@ impl Ledger {
 
 /// The rating that the policy goes by, in mW: the floor for a strange inverter.
 fn trusted(unit: &Unit, account: &Account) -> u64
-    ensures { result ≡ (if account.now.strange then mw unit.now.rating unit.now.floor else rated unit.now.rating) }
+    ensures { result ≡ (if account.now.strange then mw unit.now.rating unit.now.floor
+        else rated unit.now.rating) }
 {
     if account.strange {
         unit.rating.mw(unit.floor)

@@ -1,31 +1,12 @@
 -- Lives one after another as one history.
-use Rattle.std.specs.Prelude.{◌≡◌, nat_le, None, List, [], ◌∷◌, ◌++◌, filter}
+use Rattle.std.specs.Prelude.{nat_le, List, [], ◌∷◌, ◌++◌, filter}
 use Rattle.limiter_num.specs.Timers.{last_moment}
-use Rattle.plant_book.specs.declared.call.Call.{Call}
-use Rattle.plant_book.specs.declared.call.Reply.{Reply}
 use Rattle.plant_book.specs.declared.call.Write as writes
-use Rattle.plant_book.specs.declared.book.Entry.{Entry}
-use Rattle.plant_book.specs.Calls as parts
-use Rattle.plant_book.specs.Answered.{with_entries}
 use Rattle.plant_book.specs.Book.{BookRecord}
 use Rattle.plant_book.specs.Writes.{standing}
 use Rattle.plant_book.specs.Reserved.{now_of}
 use Rattle.plant_book.specs.History.{History, IsHistory}
 use Rattle.plant_book.specs.Safe.{IsSafeAlways}
-use Rattle.plant_book.specs.Part.{PartRecord}
-use Rattle.plant_ledger.specs.Plant.{IsKept}
-
--- the first book of a life, as a plant keeps it
-pub record IsFirst (book : PartRecord) : Type 0 where
-  pub kept : IsKept book
-  pub first : book.carry ≡ None
-
--- the entry of a call with its reply, and the book with it: the call as it is entered
-abbrev pub entry_of : BookRecord → Call → Reply → Entry
-entry_of book call reply = record { call = parts.entered book.start book.entries call; reply = reply }
-
-abbrev pub entered : BookRecord → Call → Reply → BookRecord
-entered book call reply = with_entries book (book.entries ++ entry_of book call reply ∷ [])
 
 -- a history with this last life
 abbrev pub ending_in : List writes.Write → List BookRecord → BookRecord → History

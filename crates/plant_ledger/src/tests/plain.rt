@@ -1,8 +1,6 @@
 //! The plant gives the replies of the plain slow program.
 use super::*;
 use plant_book::answer;
-use rand_core::utils::NextWord;
-use rand_pcg::Pcg32;
 
 const RAWS: [u16; 6] = [100, 150, 200, 300, 1_000, 1_001];
 
@@ -51,11 +49,11 @@ fn plain(rt: &impl Abort, plant: &Plant, call: Call) -> Reply {
     let moved = call.at_moment(at);
     assert!(rt; moved.at() == at);
     assert!(rt; at <= MOMENT_MAX);
-    assert!(rt; plant.calls() < plant.site().room);
     assert!(rt; moved.is_in_range());
     if let Some(inverter) = moved.inverter() {
         assert!(rt; usize::from(inverter) < plant.site().units.len());
     }
+    assert!(rt; plant.calls() < plant.site().room);
     answer(plant.book(), &moved)
 }
 
@@ -63,7 +61,7 @@ fn plain(rt: &impl Abort, plant: &Plant, call: Call) -> Reply {
 fn replies_are_those_of_the_plain_program(rt: HostRuntime) -> Result<(), Fail> {
     let site = site(&rt, rt.alloc(), 10_000_000, Policy::Fair, 4_000)?;
     let mut plant = Plant::open(rt.alloc(), site, 0).ok().ok_or("open")?;
-    let mut random = Pcg32::new(42, 54);
+    let mut state = 1_u32;
     let mut at = 60_000_u64;
     let mut last = Last {
         write: Write::default(),
@@ -74,8 +72,9 @@ fn replies_are_those_of_the_plain_program(rt: HostRuntime) -> Result<(), Fail> {
             at: 0,
         },
     };
-    for turn in 0..3_000 {
-        let digits = random.next_word() >> 8;
+    for _ in 0..600 {
+        state = state.wrapping_mul(1_664_525).wrapping_add(1_013_904_223);
+        let digits = state >> 8;
         at = at.saturating_add(u64::from(digits / 1_152 % 600));
         let call = call_by(digits, at, &last);
         let reply = plain(&rt, &plant, call);
@@ -84,9 +83,6 @@ fn replies_are_those_of_the_plain_program(rt: HostRuntime) -> Result<(), Fail> {
             Reply::Granted(write) => last.write = write,
             Reply::ReadAs(read) => last.read = read,
             _ => {}
-        }
-        if turn % 700 == 0 {
-            let _ = plant.roll(rt.alloc());
         }
     }
     Ok(())

@@ -1,74 +1,75 @@
 -- The entry is the call as it is entered with its reply, and each life goes on with it.
-use Rattle.std.proofs.Common.{◌≡◌, ℕ, refl, ◌<◌, ◌++◌, ◌∷◌, [], length, sym, ap, subst, ◌∙◌, arith}
+use Rattle.std.proofs.Common.{◌≡◌, ℕ, ◌<◌, ◌++◌, ◌∷◌, [], length, sym, ap, subst, ◌∙◌, arith}
+use Rattle.std.proofs.lemmas.List.{length_push}
 use Rattle.plant_book.specs.declared.call.Call.{Call}
 use Rattle.plant_book.specs.declared.book.Entry.{Entry}
 use Rattle.plant_book.specs.declared.carry.TheConstants.{CALLS_MAX}
-use Rattle.plant_book.specs.Calls.{moment, latest}
 use Rattle.plant_book.specs.Calls as parts
 use Rattle.plant_book.specs.Answer.{reply_to}
 use Rattle.plant_book.specs.Answered.{IsNext}
-use Rattle.plant_book.specs.Part.{PartRecord, begin_of, calls_of, book_behind}
-use Rattle.plant_book.specs.Carry.{EachBook}
+use Rattle.plant_book.specs.Part.{PartRecord, begin_of, calls_of, book_behind, last_moment_of}
+use Rattle.plant_book.specs.Carry.{IsBookPart, EachBook, EachBefore}
 use Rattle.plant_book.proofs.Steps.{latest-push}
 use Rattle.plant_ledger.specs.Ledger.{LedgerRecord, IsAtLast}
-use Rattle.plant_ledger.specs.Plant.{entered, GoesOn}
-use Rattle.plant_ledger.proofs.Accounts.{MayEnter, part_with, next_kept}
+use Rattle.plant_ledger.specs.Plant.{entered, with_one, GoesOn}
 use Rattle.plant_ledger.proofs.Lives.{entered-is, part_next, goes_on}
 use Rattle.plant_ledger.proofs.entering.enter.Goals as goal
+
+-- the room of a book is room in its life
+few_calls : (ledger : LedgerRecord) → IsAtLast ledger → length ledger.book.entries < ledger.book.site.room → calls_of ledger.book < CALLS_MAX
+few_calls ledger at_last room = omega (arith, at_last.kept.calls, room)
+
+pub answer-reply-requires-clause-life : goal.answer-reply-requires-clause-life
+answer-reply-requires-clause-life c =
+    subst (λ (ledger : LedgerRecord). calls_of ledger.book < CALLS_MAX) (sym c.advance.ensures) (few_calls c.args.ledger.now c.requires.kept c.requires.room)
 
 pub enter-requires-clause-next : goal.enter-requires-clause-next
 enter-requires-clause-next c =
     let part = c.args.ledger.now.book in
-    let kept = c.requires.last.kept in
-    let is = entered-is part c.args.call c.at_moment-call.result c.max.result c.at.result c.now.result c.at.ensures (c.now.ensures.now ∙ c.requires.last.last) c.max.ensures c.at_moment-call.ensures in
-    let same : c.advance.new.self.book ≡ part = ap (λ (ledger : LedgerRecord). ledger.book) c.advance.ensures in
-    subst (λ (b : PartRecord). IsNext b.site (begin_of b) b.entries c.at_moment-call.result) (sym same)
-    (subst (λ (moved : Call). IsNext part.site (begin_of part) part.entries moved) (sym is)
-    (part_next part kept.of_life.before c.args.call kept.of_life.behind c.requires.moment c.requires.of_site c.requires.in_range))
+    let life = c.requires.kept.kept.of_life in
+    let is = entered-is part c.args.call c.at_moment-call.result c.max.result c.at.result c.now.result c.at.ensures (c.now.ensures.now ∙ c.requires.kept.last) c.max.ensures c.at_moment-call.ensures in
+    subst (λ (ledger : LedgerRecord). IsNext ledger.book.site (begin_of ledger.book) ledger.book.entries c.at_moment-call.result) (sym c.advance.ensures)
+    (subst (λ (moved : Call). IsNext part.site (begin_of part) part.entries moved) (sym is) (part_next part life.before c.args.call life.behind c.requires.moment c.requires.of_site c.requires.in_range))
 
 module _ (c : goal.After-enter) where
-  abbrev part : PartRecord
-  part = c.args.ledger.now.book
+  is : c.at_moment-call.result ≡ parts.entered (begin_of c.args.ledger.now.book) c.args.ledger.now.book.entries c.args.call
+  is = entered-is c.args.ledger.now.book c.args.call c.at_moment-call.result c.max.result c.at.result c.now.result c.at.ensures (c.now.ensures.now ∙ c.requires.kept.last) c.max.ensures c.at_moment-call.ensures
 
-  is : c.at_moment-call.result ≡ parts.entered (begin_of part) part.entries c.args.call
-  is = entered-is part c.args.call c.at_moment-call.result c.max.result c.at.result c.now.result c.at.ensures (c.now.ensures.now ∙ c.requires.last.last) c.max.ensures c.at_moment-call.ensures
-
-  same : c.advance.new.self.book ≡ part
-  same = ap (λ (ledger : LedgerRecord). ledger.book) c.advance.ensures
-
-  right : EachBook part (λ whole. c.answer-reply.result ≡ reply_to whole c.at_moment-call.result)
-  right = subst (λ (b : PartRecord). EachBook b (λ whole. c.answer-reply.result ≡ reply_to whole c.at_moment-call.result)) same c.answer-reply.ensures
-
-  abbrev entry : Entry
-  entry = record { call = c.at_moment-call.result; reply = c.answer-reply.result }
-
-  written : c.enter.new.self ≡ record { book = part_with part entry; at = moment c.at_moment-call.result }
+  written : c.enter.new.self ≡ record { book = with_one c.args.ledger.now.book (record { call = c.at_moment-call.result; reply = c.answer-reply.result }); at = parts.moment c.at_moment-call.result }
   written =
-      let after : LedgerRecord → LedgerRecord = λ ledger. record { book = part_with ledger.book entry; at = ledger.at } in
-      c.enter.ensures ∙ ap after c.advance.ensures ∙ ap (λ (n : ℕ). after (record { book = part; at = n })) c.at-2.ensures
+      let after : LedgerRecord → LedgerRecord = λ ledger. record { book = with_one ledger.book (record { call = c.at_moment-call.result; reply = c.answer-reply.result }); at = ledger.at } in
+      c.enter.ensures ∙ ap after c.advance.ensures ∙ ap (λ (n : ℕ). after (record { book = c.args.ledger.now.book; at = n })) c.at-2.ensures
 
-  may : MayEnter (record { book = part; at = moment c.at_moment-call.result }) entry
-  may = record {
-    room = c.requires.room;
-    next = subst (λ (moved : Call). IsNext part.site (begin_of part) part.entries moved) (sym is)
-        (part_next part c.requires.last.kept.of_life.before c.args.call c.requires.last.kept.of_life.behind c.requires.moment c.requires.of_site c.requires.in_range);
-    answer = right;
-    now = refl;
-  }
+  new_book : c.enter.new.self.book ≡ entered c.args.ledger.now.book c.args.call c.answer-reply.result
+  new_book =
+      ap (λ (ledger : LedgerRecord). ledger.book) written
+      ∙ ap (λ (moved : Call). with_one c.args.ledger.now.book (record { call = moved; reply = c.answer-reply.result })) is
+
+  goes : EachBefore c.args.ledger.now.book (λ before. GoesOn before c.args.ledger.now.book c.args.call c.answer-reply.result c.enter.new.self.book)
+  goes before behind =
+      let part = c.args.ledger.now.book in
+      let answers = subst (λ (ledger : LedgerRecord). EachBook ledger.book (λ whole. c.answer-reply.result ≡ reply_to whole c.at_moment-call.result)) c.advance.ensures c.answer-reply.ensures in
+      let right : c.answer-reply.result ≡ reply_to (book_behind before part) (parts.entered (begin_of part) part.entries c.args.call) =
+      answers before behind ∙ ap (reply_to (book_behind before part)) is in
+      subst (λ (b : PartRecord). GoesOn before part c.args.call c.answer-reply.result b) (sym new_book)
+      (goes_on part before c.args.call behind c.requires.moment c.requires.of_site c.requires.in_range c.answer-reply.result (few_calls c.args.ledger.now c.requires.kept c.requires.room) right)
 
 pub returns-clause-lives : goal.returns-clause-lives
-returns-clause-lives c before behind =
-    let call = c.args.call in
-    let reply = c.answer-reply.result in
-    let new : c.enter.new.self.book ≡ entered (part c) call reply =
-    ap (λ (ledger : LedgerRecord). ledger.book) (written c) ∙ ap (λ (moved : Call). part_with (part c) (record { call = moved; reply = reply })) (is c) in
-    let few : calls_of (part c) < CALLS_MAX = omega (arith, c.requires.last.kept.calls, c.requires.room) in
-    subst (λ (b : PartRecord). GoesOn before (part c) call reply b) (sym new)
-    (goes_on (part c) before call behind c.requires.moment c.requires.of_site c.requires.in_range reply few (right c before behind ∙ ap (reply_to (book_behind before (part c))) (is c)))
+returns-clause-lives c = goes c
 
-pub returns-clause-last : goal.returns-clause-last
-returns-clause-last c =
+pub returns-clause-kept : goal.returns-clause-kept
+returns-clause-kept c =
+    let old = c.args.ledger.now in
+    let entry : Entry = record { call = c.at_moment-call.result; reply = c.answer-reply.result } in
+    let before = c.requires.kept.kept.of_life.before in
+    let on = goes c before c.requires.kept.kept.of_life.behind in
+    let of_life : IsBookPart c.enter.new.self.book = record { before = before; behind = on.answered } in
+    let made = subst IsBookPart (ap (λ (ledger : LedgerRecord). ledger.book) (written c)) of_life in
     subst IsAtLast (sym (written c)) (record {
-      kept = next_kept (part c) (entry c) (moment c.at_moment-call.result) c.requires.last.kept (may c);
-      last = sym (latest-push (begin_of (part c)) (part c).entries (entry c));
+      kept = record {
+        of_life = made;
+        room = omega (arith, length_push old.book.entries entry, c.requires.room);
+        calls = c.requires.kept.kept.calls;
+      };
+      last = sym (latest-push (begin_of old.book) old.book.entries entry);
     })

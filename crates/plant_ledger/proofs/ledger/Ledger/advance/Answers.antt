@@ -3,7 +3,7 @@ use Rattle.std.proofs.lemmas.List.{length-map}
 use Rattle.limiter_num.specs.declared.rules.Rules.{Rules}
 use Rattle.plant_ledger.specs.declared.account.Account.{Account}
 use Rattle.plant_ledger.specs.Ledger.{LedgerRecord, account_at}
-use Rattle.plant_ledger.proofs.Accounts.{whole, later_ledger}
+use Rattle.plant_ledger.proofs.Accounts.{whole, later_of}
 use Rattle.plant_ledger.proofs.ledger.Ledger.advance.Goals as goal
 
 pub invariant_of-self : goal.invariant_of-self
@@ -15,4 +15,4 @@ invariant_of-self c =
     let made : new ≡ map (at book.site.rules) old = c.expire.ensures ∙ ap (λ (rules : Rules). map (at rules) c.deref_mut.result.now) c.rules_of-rules.ensures ∙ ap (map (at book.site.rules)) c.deref_mut.ensures.value in
     let len : length new ≡ c.self.inside.accounts.len = omega (arith, ap (λ (all : List Account). length all) made, length-map old (at book.site.rules), c.deref_mut.ensures.len, ap (λ (all : List Account). length all) c.deref_mut.ensures.value) in
     let le : c.self.inside.moment ≤ c.args.now = omega (arith, c.requires.later, ap (λ (l : LedgerRecord). l.at) c.self.view_is) in
-    later_ledger book c.self.inside.moment c.args.now old _ c.self.inside.cap c.self.inside.stopped le c.requires.high (whole new old c.self.inside.accounts.len len ∙ made) c.self.invariant
+    later_of book c.self.inside.moment c.args.now old _ c.self.inside.cap c.self.inside.stopped le c.requires.high (whole new old c.self.inside.accounts.len len ∙ made) c.self.invariant

@@ -1,8 +1,7 @@
-use Rattle.std.proofs.Common.{◌≡◌, ℕ, List, length, map, sym, ap, subst, ◌∙◌, arith, lit<}
+use Rattle.std.proofs.Common.{◌≡◌, ℕ, length, map, sym, ap, ◌∙◌, arith, lit<}
 use Rattle.std.specs.List.{range_with_len}
 use Rattle.std.proofs.lemmas.List.FromFn.{map-range_with_len_more, length-map-range_with_len}
 use Rattle.share_policy.specs.declared.claim.Claim.{Claim}
-use Rattle.share_policy.specs.Claims.{IsFeasible}
 use Rattle.plant_book.specs.Site.{inverters}
 use Rattle.plant_book.specs.Part.{book_behind}
 use Rattle.plant_book.specs.Policy as rule
@@ -18,7 +17,7 @@ push-requires c = (
     length-map-range_with_len (rule.fall_claim c.args.self.now.book.site) 0 c.loop-inverter.inverter,
     c.loop-inverter-test.true,
     c.inverters-inverter-end.ensures.count,
-    c.inverters-inverter-end.ensures.kept.of_life.behind.book.openable.few,
+    c.inverters-inverter-end.ensures.of_life.behind.book.openable.few,
   ),
 )
 
@@ -27,16 +26,12 @@ loop-inverter-preserved c =
     let i = c.loop-inverter.inverter in
     rw (c.push.ensures.items, c.loop-inverter.invariant, c.fall_claim.ensures) (sym (map-range_with_len_more (rule.fall_claim c.args.self.now.book.site) 0 i i (omega arith)))
 
+pub returns-clause-feasible : goal.returns-clause-feasible
+returns-clause-feasible c before is = fall_claims-feasible (book_behind before c.args.self.now.book) is.book
+
 pub returns-clause-claims : goal.returns-clause-claims
 unfolding rule.fall_claims
 returns-clause-claims c =
-    let book = c.args.self.now.book in
-    let all : c.loop-inverter.inverter ≡ inverters book.site = omega (arith, c.loop-inverter-test.false, c.loop-inverter.auto.inverter-end, c.inverters-inverter-end.ensures.count) in
-    c.loop-inverter.invariant ∙ ap (λ (n : ℕ). map (rule.fall_claim book.site) (range_with_len 0 n)) all
-
-pub returns-clause-feasible : goal.returns-clause-feasible
-returns-clause-feasible c cap in_force =
-    let life = c.inverters-inverter-end.ensures.kept.of_life in
-    let whole = book_behind life.before c.args.self.now.book in
-    subst (λ (all : List Claim). IsFeasible cap all) (sym (returns-clause-claims c))
-    (subst (λ (watts : ℕ). IsFeasible watts (rule.fall_claims whole.site)) (sym (in_force life.before life.behind)) (fall_claims-feasible whole life.behind.book))
+    let site = c.args.self.now.book.site in
+    let all : c.loop-inverter.inverter ≡ inverters site = omega (arith, c.loop-inverter-test.false, c.loop-inverter.auto.inverter-end, c.inverters-inverter-end.ensures.count) in
+    c.loop-inverter.invariant ∙ ap (λ (n : ℕ). map (rule.fall_claim site) (range_with_len 0 n)) all

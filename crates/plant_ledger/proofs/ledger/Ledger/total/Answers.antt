@@ -1,8 +1,8 @@
 use Rattle.std.proofs.Common.{◌≡◌, ℕ, refl, ap, ◌∙◌, add-one, arith}
 use Rattle.plant_book.specs.Sums.{sum_below}
+use Rattle.plant_book.specs.Part.{book_behind}
 use Rattle.plant_book.specs.Reserved as sums
 use Rattle.plant_book.specs.Site.{inverters}
-use Rattle.plant_book.specs.Part.{book_behind}
 use Rattle.plant_ledger.proofs.ledger.Ledger.total.Goals as goal
 
 pub overflow_add-total : goal.overflow_add-total
@@ -12,7 +12,7 @@ overflow_add-total c = omega (
   c.reserved-total.ensures.below,
   c.loop-inverter-test.true,
   c.inverters-inverter-end.ensures.count,
-  c.inverters-inverter-end.ensures.kept.of_life.behind.book.openable.few,
+  c.inverters-inverter-end.ensures.of_life.behind.book.openable.few,
 )
 
 pub loop-inverter-init : goal.loop-inverter-init
@@ -21,8 +21,10 @@ loop-inverter-init c = record { summed = λ before is. refl; below = omega arith
 
 pub loop-inverter-preserved : goal.loop-inverter-preserved
 unfolding sum_below
-loop-inverter-preserved c =
-    record { summed = λ before is. rw add-one (omega (arith, c.loop-inverter.invariant.summed before is, c.reserved-total.ensures.watts before is)); below = omega (arith, c.loop-inverter.invariant.below, c.reserved-total.ensures.below) }
+loop-inverter-preserved c = record {
+  summed = λ before is. rw add-one (omega (arith, c.loop-inverter.invariant.summed before is, c.reserved-total.ensures.watts before is));
+  below = omega (arith, c.loop-inverter.invariant.below, c.reserved-total.ensures.below);
+}
 
 pub returns : goal.returns
 unfolding sums.total_at

@@ -1,7 +1,7 @@
 use Rattle.std.proofs.Common.{◌≡◌, ◌≤◌, ◌*◌, ◌^◌}
 use Rattle.plant_book.specs.Sums.{sum_below}
-use Rattle.plant_book.specs.Reserved as sums
 use Rattle.plant_book.specs.Carry.{EachBook}
+use Rattle.plant_book.specs.Reserved as sums
 use Rattle.plant_ledger.proofs.ledger.Ledger.total.Given as goal
 
 abbrev pub invariant-loop-inverter : goal.invariant-loop-inverter

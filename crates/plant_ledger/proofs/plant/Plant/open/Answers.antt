@@ -1,26 +1,40 @@
-use Rattle.std.proofs.Common.{refl, sym, subst}
+use Rattle.std.proofs.Common.{◌≡◌, ℕ, ◌≤◌, [], None, refl, sym, subst, arith}
+use Rattle.plant_book.specs.declared.call.TheConstants.{MOMENT_MAX}
+use Rattle.plant_book.specs.Site.{SiteRecord}
+use Rattle.plant_book.specs.Answered.{IsOpenable}
 use Rattle.plant_book.specs.Calls.{latest}
-use Rattle.plant_ledger.specs.Ledger.{IsAtLast}
-use Rattle.plant_ledger.proofs.Accounts.{first_kept}
+use Rattle.plant_book.proofs.Growth.{IsBook-empty}
+use Rattle.plant_ledger.specs.Ledger.{LedgerRecord, IsAtLast}
 use Rattle.plant_ledger.proofs.Kept.{kept_capped, kept_back, kept_covered, kept_safe, kept_tight}
 use Rattle.plant_ledger.proofs.plant.Plant.open.Goals as goal
 
-pub invariant_of-result : goal.invariant_of-result
+-- the ledger of a life without calls
+at_start : (site : SiteRecord) (start : ℕ) (ledger : LedgerRecord) → IsOpenable site → start ≤ MOMENT_MAX
+    → ledger ≡ record { book = record { site = site; start = start; carry = None; entries = [] }; at = start } → IsAtLast ledger
 unfolding latest
-invariant_of-result c =
-    subst IsAtLast (sym c.in-Ok.ensures) (record { kept = first_kept c.args.site c.args.start c.in_ok-refuse.ensures.openable c.requires.start; last = refl })
+at_start site start ledger openable low is = subst IsAtLast (sym is) (record {
+  kept = record {
+    of_life = record { before = []; behind = record { carry = refl; book = IsBook-empty site start openable low } };
+    room = omega arith;
+    calls = omega (arith, openable.checked.room_high);
+  };
+  last = refl;
+})
 
-pub returns-in-Ok-clause-capped : goal.returns-in-Ok-clause-capped
-returns-in-Ok-clause-capped c = kept_capped _
+pub invariant_of-result : goal.invariant_of-result
+invariant_of-result c = at_start c.args.site c.args.start c.in-Ok.ledger c.in_ok-refuse.ensures.openable c.requires.start c.in-Ok.ensures
 
-pub returns-in-Ok-clause-back : goal.returns-in-Ok-clause-back
-returns-in-Ok-clause-back c = kept_back _
+pub returns-clause-capped : goal.returns-clause-capped
+returns-clause-capped c = kept_capped _
 
-pub returns-in-Ok-clause-covered : goal.returns-in-Ok-clause-covered
-returns-in-Ok-clause-covered c = kept_covered _
+pub returns-clause-back : goal.returns-clause-back
+returns-clause-back c = kept_back _
 
-pub returns-in-Ok-clause-safe : goal.returns-in-Ok-clause-safe
-returns-in-Ok-clause-safe c = kept_safe _
+pub returns-clause-covered : goal.returns-clause-covered
+returns-clause-covered c = kept_covered _
 
-pub returns-in-Ok-clause-tight : goal.returns-in-Ok-clause-tight
-returns-in-Ok-clause-tight c = kept_tight _
+pub returns-clause-safe : goal.returns-clause-safe
+returns-clause-safe c = kept_safe _
+
+pub returns-clause-tight : goal.returns-clause-tight
+returns-clause-tight c = kept_tight _

@@ -1,64 +1,39 @@
-use Rattle.std.proofs.Common.{◌≡◌, [], sym, subst, ap, ◌∙◌, arith}
-use Rattle.std.specs.Prelude.{Result, Ok, Err, IfOk}
+use Rattle.std.proofs.Common.{◌≡◌, subst, ap, ◌∙◌, arith}
+use Rattle.std.specs.Prelude.{Result, Ok, Err, IfOk, IfErr, length}
 use Rattle.plant_book.specs.declared.call.Call.{Call}
-use Rattle.plant_book.specs.declared.book.Entry.{Entry}
-use Rattle.plant_book.specs.Book.{BookRecord}
 use Rattle.plant_book.specs.Reserved.{now_of}
-use Rattle.plant_book.specs.Part.{PartRecord, book_behind}
+use Rattle.plant_book.specs.Part.{PartRecord, first_book}
 use Rattle.plant_book.proofs.Cap.{total_at-capped}
+use Rattle.plant_book.proofs.Behind.{behind_nothing}
 use Rattle.plant_ledger.specs.declared.plant.BookFull.{BookFull}
 use Rattle.plant_ledger.specs.declared.plant.Outcome.{Outcome}
-use Rattle.plant_ledger.specs.Plant.{right_reply, LeavesReservations}
-use Rattle.restart_silence.specs.Chain.{GoesOn, IsFirst, entry_of}
+use Rattle.plant_ledger.specs.Plant.{entered}
+use Rattle.restart_silence.specs.Chain.{GoesOn}
 use Rattle.restart_silence.proofs.Chain.{goes_on}
-use Rattle.restart_silence.proofs.First.{SameLife, first_behind, first_book, same_life, entry_is}
 use Rattle.restart_silence.proofs.lives.Lives.apply.Goals as goal
 
--- what follows of an outcome
-if_ok : (result : Result Outcome BookFull) (P Q : Outcome → Type 0) → ((outcome : Outcome) → P outcome → Q outcome) → IfOk result P → IfOk result Q
-if_ok (Ok outcome) P Q then fact = then outcome fact
-if_ok (Err full) P Q then fact = tt
+-- a call leaves the site, the start and the carry
+record SameLife (old new : PartRecord) : Type 0 where
+  site : new.site ≡ old.site
+  start : new.start ≡ old.start
+  carry : new.carry ≡ old.carry
 
-module _ (c : goal.After-apply) where
-  abbrev old : PartRecord
-  old = c.self.inside.plant
-
-  abbrev new : PartRecord
-  new = c.apply.new.self
-
-  same : SameLife old new
-  same = same_life old new c.args.call c.apply.result c.apply.ensures.entered c.apply.ensures.full
-
-  is_first : IsFirst new
-  is_first = record { kept = c.apply.ensures.kept; first = same.carry ∙ c.self.invariant.first }
-
-pub invariant_of-self : goal.invariant_of-self
-invariant_of-self c = is_first c
-
-pub returns-clause-reply : goal.returns-clause-reply
-returns-clause-reply c =
-    subst (λ (b : BookRecord). IfOk c.apply.result (λ outcome. outcome.reply ≡ right_reply b c.args.call)) c.self.view_is
-    (if_ok c.apply.result _ _ (λ outcome goes. (goes [] (first_behind (old c) c.self.invariant)).right) c.apply.ensures.lives)
-
-pub returns-clause-reserved : goal.returns-clause-reserved
-returns-clause-reserved c =
-    subst (λ (b : BookRecord). IfOk c.apply.result (λ outcome. LeavesReservations b (entry_of b c.args.call outcome.reply) (book_behind [] (new c)))) c.self.view_is
-    (if_ok c.apply.result _ _
-    (λ outcome goes.
-    subst (λ (entry : Entry). LeavesReservations (book_behind [] (old c)) entry (book_behind [] (new c))) (entry_is (old c) c.args.call outcome.reply c.self.invariant)
-    (goes [] (first_behind (old c) c.self.invariant)).reserved)
-    c.apply.ensures.lives)
-
-pub returns-clause-capped : goal.returns-clause-capped
-returns-clause-capped c = total_at-capped (book_behind [] (new c)) (first_book (new c) (is_first c)) (now_of (book_behind [] (new c))) (omega arith)
-
-pub returns-clause-ceiling : goal.returns-clause-ceiling
-returns-clause-ceiling c = c.apply.ensures.capped [] (first_behind (new c) (is_first c))
-
-pub returns-clause-back : goal.returns-clause-back
-returns-clause-back c = c.apply.ensures.back [] (first_behind (new c) (is_first c))
+same_life : (old new : PartRecord) (call : Call) (result : Result Outcome BookFull) → IfOk result (λ outcome. new ≡ entered old call outcome.reply)
+    → IfErr result (λ full. (full.calls ≡ length old.entries) × (full.calls ≡ old.site.room) × (new ≡ old)) → SameLife old new
+same_life old new call (Ok outcome) is full = record { site = ap (λ (b : PartRecord). b.site) is; start = ap (λ (b : PartRecord). b.start) is; carry = ap (λ (b : PartRecord). b.carry) is }
+same_life old new call (Err full) is same = record { site = ap (λ (b : PartRecord). b.site) same.2; start = ap (λ (b : PartRecord). b.start) same.2; carry = ap (λ (b : PartRecord). b.carry) same.2 }
 
 pub returns-clause-chain : goal.returns-clause-chain
 returns-clause-chain c =
-    subst (λ (b : BookRecord). GoesOn b (book_behind [] (new c))) c.self.view_is
-    (goes_on (book_behind [] (old c)) (book_behind [] (new c)) (first_book (new c) (is_first c)) (same c).site (same c).start)
+    let old = c.self.inside.plant in
+    let new = c.apply.new.self in
+    let same = same_life old new c.args.call c.apply.result c.apply.ensures.entered c.apply.ensures.full in
+    let book = (behind_nothing new c.apply.ensures.kept.of_life (same.carry ∙ c.self.invariant)).book in
+    subst (λ (b : PartRecord). GoesOn (first_book b) (first_book new)) c.self.view_is (goes_on (first_book old) (first_book new) book same.site same.start)
+
+pub returns-clause-capped : goal.returns-clause-capped
+returns-clause-capped c =
+    let new = c.apply.new.self in
+    let same = same_life c.self.inside.plant new c.args.call c.apply.result c.apply.ensures.entered c.apply.ensures.full in
+    let book = (behind_nothing new c.apply.ensures.kept.of_life (same.carry ∙ c.self.invariant)).book in
+    total_at-capped (first_book new) book (now_of (first_book new)) (omega arith)
