@@ -1,0 +1,10 @@
+pub mod LineEnds
+pub mod Numbers
+pub mod Spelled
+pub mod Steps
+pub mod Ranges
+pub mod Taken
+pub mod Written
+pub mod Once
+pub mod Back
+pub mod Count
