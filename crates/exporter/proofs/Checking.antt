@@ -35,6 +35,7 @@ complete not_both (ends.TooLong limit) read input output row =
     (told_front input.old input.new read row.0.1.bytes)
 complete not_both ends.BadWords read input output row = absurd row.0
 complete not_both (ends.BadLine line kind) read input output row = absurd row.0
+complete not_both (ends.BookFull calls) read input output row = absurd row.0
 complete not_both (ends.Refused fault) read input output row = absurd row.0
 
 pub refused : NotBoth → OneFault → (ended : Ended) (read : List ℕ) (input output : Change) → IsCheckEnd ended read input output
@@ -56,4 +57,5 @@ refused not_both one (ends.TooLong limit) read input output row =
     (told_front input.old input.new read row.0.1.bytes)
 refused not_both one ends.BadWords read input output row = absurd row.0
 refused not_both one (ends.BadLine line kind) read input output row = absurd row.0
+refused not_both one (ends.BookFull calls) read input output row = absurd row.0
 refused not_both one (ends.Refused fault) read input output row = absurd row.0

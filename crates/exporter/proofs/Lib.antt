@@ -1,13 +1,6 @@
-pub mod Decimals
-pub mod Spelled
-pub mod Again
-pub mod Fronts
-pub mod Places
-pub mod Progress
 pub mod Written
-pub mod Plays
-pub mod Entering
 pub mod Endings
+pub mod Replaying
 pub mod Checking
 pub mod Tasks
 pub mod Timers

@@ -339,6 +339,7 @@ not_found_of not_both ends.Done read site row = absurd row
 not_found_of not_both ends.BadWords read site row = absurd row
 not_found_of not_both ends.WriteFault read site row = absurd row
 not_found_of not_both (ends.BadLine line kind) read site row = absurd row
+not_found_of not_both (ends.BookFull calls) read site row = absurd row
 not_found_of not_both (ends.Refused fault) read site row = absurd row
 
 not_found : NotBoth → OneFile → (number : ℕ) (ended : Ended) (read : List ℕ) (site : Change) → FindsNoInverter number read site ended

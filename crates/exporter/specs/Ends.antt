@@ -1,18 +1,10 @@
--- How the program ends: the words that it takes, how each end is shown, and what each end of a command says.
-use Rattle.std.specs.Prelude.{◌≡◌, ℕ, List, [], ◌∷◌, ◌++◌, Option, Some, None, codes}
+-- How the program ends: how each end is shown, and what an end says.
+use Rattle.std.specs.Prelude.{ℕ, List, ◌++◌, Option, Some, None, codes}
 use Rattle.std.specs.Fmt.{decimal}
-use Rattle.exporter.specs.declared.ended.LineKind.{LineKind}
-use Rattle.exporter.specs.declared.ended.LineKind.TheVariants as kinds
+use Rattle.script_text.specs.declared.line.LineKind.{LineKind}
+use Rattle.script_text.specs.declared.line.LineKind.TheVariants as kinds
 use Rattle.exporter.specs.declared.ended.Ended.{Ended}
 use Rattle.exporter.specs.declared.ended.Ended.TheVariants as ends
-use Rattle.exporter.specs.Script.{LeavesFormAt}
-use Rattle.exporter.specs.Replay.{IsReplay}
-use Rattle.exporter.specs.Streams.{input_limit, Change, Fails, Works, ReadsFront, ReadsWhole, ReadsBeyond}
-use Rattle.exporter.specs.Streams.{GainsText, GainsFront, GainsNothing}
-
--- the words are the one that asks for a replay
-abbrev pub AreReplay : List (List ℕ) → Type 0
-AreReplay words = words ≡ codes "replay" ∷ []
 
 -- the status of an end
 abbrev pub status_of : Ended → ℕ
@@ -20,6 +12,7 @@ status_of ends.Done = 0
 status_of ends.BadWords = 2
 status_of (ends.BadLine line kind) = 3
 status_of (ends.BadSite fault) = 4
+status_of (ends.BookFull calls) = 5
 status_of ends.ReadFault = 6
 status_of ends.WriteFault = 7
 status_of ends.NoMemory = 8
@@ -38,6 +31,7 @@ end_text ends.Done = Some (codes "done")
 end_text ends.BadWords = Some (codes "bad words")
 end_text (ends.BadLine line kind) = Some (codes "line " ++ decimal line ++ codes ": " ++ kind_text kind)
 end_text (ends.BadSite fault) = None
+end_text (ends.BookFull calls) = Some (codes "book full: " ++ decimal calls)
 end_text ends.ReadFault = Some (codes "read fault")
 end_text ends.WriteFault = Some (codes "write fault")
 end_text ends.NoMemory = Some (codes "no memory")
@@ -49,20 +43,3 @@ pub record End (Cause Read Gained : Type 0) : Type 0 where
   pub cause : Cause
   pub read : Read
   pub gained : Gained
-
--- The ends of `replay`, each with what it says of the bytes that were read. It has no others.
-abbrev pub IsReplayEnd : Ended → List ℕ → Change → Change → Type 0
-IsReplayEnd ends.Done read input output =
-    End (Unit {0}) (ReadsWhole input_limit read input) (GainsText (IsReplay read) output)
-IsReplayEnd (ends.BadLine line kind) read input output =
-    End ((kind ≡ kinds.Form) × LeavesFormAt read line)
-    (ReadsWhole input_limit read input) (GainsNothing output)
-IsReplayEnd ends.ReadFault read input output =
-    End (Fails input) (ReadsFront input_limit read input) (GainsNothing output)
-IsReplayEnd ends.WriteFault read input output =
-    End (Fails output) (ReadsWhole input_limit read input) (GainsFront (IsReplay read) output)
-IsReplayEnd ends.NoMemory read input output =
-    End (Works input) (ReadsFront input_limit read input) (GainsNothing output)
-IsReplayEnd (ends.TooLong limit) read input output =
-    End (limit ≡ input_limit) (ReadsBeyond input_limit read input) (GainsNothing output)
-IsReplayEnd _ read input output = ⊥

@@ -1,13 +1,6 @@
-pub mod Ranges
-pub mod Text
-pub mod Script
 pub mod Replay
-pub mod Reading
-pub mod Holding
-pub mod Printing
 pub mod Streams
 pub mod Ends
-pub mod Playing
 pub mod Site
 pub mod Check
 pub mod Words

@@ -3,22 +3,10 @@ ghost use Rattle.exporter.specs.Ends.{status_of, kind_text, end_text};
 
 use crate::fault_text::{write_live_fault, write_site_fault};
 use crate::live_fault::LiveFault;
+use script_text::LineKind;
 use site_config::SiteFault;
 use std::fmt;
 use std::fmt::{Display, Formatter};
-
-/// How a line of a script is at fault.
-#[derive(Clone, Copy, Debug, PartialEq, Eq)]
-pub enum LineKind {
-    /// It is no line of the grammar, or not at its place.
-    Form,
-    /// It names an inverter that the site lacks.
-    Inverter,
-    /// It is earlier than the line before.
-    Time,
-    /// A number of it is out of its range.
-    Value,
-}
 
 /// How the program ended.
 #[derive(Clone, Copy, Debug, PartialEq, Eq)]
@@ -34,8 +22,13 @@ pub enum Ended {
         /// How it is at fault.
         kind: LineKind,
     },
-    /// The site file is at fault, and this is its first fault.
+    /// The site file is at fault, and this is its first fault; or no book is opened of the site of a script.
     BadSite(SiteFault),
+    /// A book of a script had no room for the next call line.
+    BookFull {
+        /// The calls of the book, which are its room.
+        calls: u32,
+    },
     /// The input failed.
     ReadFault,
     /// The output failed.
@@ -60,6 +53,7 @@ pub fn status(ended: &Ended) -> u8
         Ended::BadWords => 2,
         Ended::BadLine { .. } => 3,
         Ended::BadSite(_) => 4,
+        Ended::BookFull { .. } => 5,
         Ended::ReadFault => 6,
         Ended::WriteFault => 7,
         Ended::NoMemory => 8,
@@ -68,17 +62,15 @@ pub fn status(ended: &Ended) -> u8
     }
 }
 
-impl Display for LineKind {
-    ghost output = { λ kind. Some (kind_text kind) };
-
-    fn fmt<W: fmt::Write>(&self, f: &mut Formatter<W>) -> fmt::Result {
-        let name = match self {
-            LineKind::Form => "form",
-            LineKind::Inverter => "inverter",
-            LineKind::Time => "time",
-            LineKind::Value => "value",
-        };
-        f.write_str(name)
+/// The kind of a bad line as it is shown.
+fn kind_name(kind: LineKind) -> &'static str
+    ensures { result.now ≡ kind_text kind }
+{
+    match kind {
+        LineKind::Form => "form",
+        LineKind::Inverter => "inverter",
+        LineKind::Time => "time",
+        LineKind::Value => "value",
     }
 }
 
@@ -90,11 +82,15 @@ impl Display for Ended {
         match self {
             Ended::Done => f.write_str("done"),
             Ended::BadWords => f.write_str("bad words"),
-            Ended::BadLine { line, kind } => write!(f, "line {line}: {kind}"),
+            Ended::BadLine { line, kind } => {
+                let kind = kind_name(*kind);
+                write!(f, "line {line}: {kind}")
+            }
             Ended::BadSite(fault) => {
                 f.write_str("bad site: ")?;
                 write_site_fault(f, *fault)
             }
+            Ended::BookFull { calls } => write!(f, "book full: {calls}"),
             Ended::ReadFault => f.write_str("read fault"),
             Ended::WriteFault => f.write_str("write fault"),
             Ended::NoMemory => f.write_str("no memory"),

@@ -1,4 +1,4 @@
-//! The program: a script of calls goes in, and the book with the reply to each call comes out.
+//! The program: a script of calls goes in, and the text of its lives with the reply to each call comes out.
 //!
 //! `plain` does all that the program does, over any input and output; its contract says what. `main` hands it
 //! the words of the command line, standard input and standard output.
@@ -10,23 +10,16 @@ mod command_line;
 mod commission;
 mod ended;
 mod fault_text;
-mod fields;
 mod finding;
 mod input;
-mod judging;
-mod laws;
-mod line;
 mod live;
 mod live_fault;
-mod number;
 mod output;
 mod plain;
-mod playing;
 mod real;
-mod script;
+mod replay;
 mod serve;
 mod site;
-mod text;
 mod words;
 
 use crate::adapters::{BootClock, Calling, Listening, Opened, Opener, TcpDialer};

@@ -1,31 +1,23 @@
 ghost use Rattle.std.specs.Prelude.{◌≡◌, ◌↔◌, ◌⊎◌, ◌<◌, ◌≤◌, ◌∷◌, ℕ, List, [], map, length};
-ghost use Rattle.std.specs.Prelude.{IsTrue, IfSome, IfOk, IfErr};
+ghost use Rattle.std.specs.Prelude.{IsTrue, IfSome, None, Some};
 ghost use Rattle.std.specs.String.{string_bytes};
 ghost use Rattle.std.specs.Io.KnownBytes.{IsAtEnd};
 ghost use Rattle.world_traits.specs.Causes.{Rose};
-ghost use Rattle.exporter.specs.declared.line.Line.{Line};
-ghost use Rattle.exporter.specs.Script.{IsScript, LeavesFormAt};
-ghost use Rattle.exporter.specs.Holding.{Explains};
-ghost use Rattle.exporter.specs.Replay.{IsReplay};
+ghost use Rattle.script_text.specs.declared.line.LineKind.{LineKind};
+ghost use Rattle.script_text.specs.Script.{IsFirstBadLine};
+ghost use Rattle.script_replay.specs.Replay.{IsReplay, HasRoom};
 ghost use Rattle.exporter.specs.Streams.{change, input_limit, GainsFront, GainsText};
-ghost use Rattle.exporter.specs.Ends.{AreReplay, IsReplayEnd};
+ghost use Rattle.exporter.specs.Replay.{AreReplay, HasBadSite, IsReplayText, TellsSafeLives, IsReplayEnd};
 ghost use Rattle.exporter.specs.Site.{site_limit};
 ghost use Rattle.exporter.specs.Check.{AreCheck, IsCheck, IsCheckEnd};
 ghost use Rattle.site_config.specs.declared.fault.SiteFault.{SiteFault};
 ghost use Rattle.site_config.specs.SiteFile.{SiteFileRecord, IsSiteFile, IsRefused};
 
 use crate::check::check;
-use crate::ended::{Ended, LineKind};
-use crate::input::{InputFault, read_whole};
-use crate::output::write_whole;
-use crate::playing::play;
-use crate::script::{ScriptFault, read_script};
-use crate::text::print_book;
+use crate::ended::Ended;
+use crate::replay::replay;
 use std::alloc::Global;
 use world_traits::{Sink, Source};
-
-/// How many bytes a script has at most.
-const SCRIPT_BYTES_MAX: u32 = 134_217_728;
 
 /// Whether the words are this one alone.
 fn is_word(words: &Vec<String>, name: &str) -> bool
@@ -37,50 +29,9 @@ fn is_word(words: &Vec<String>, name: &str) -> bool
     }
 }
 
-/// The text of the book of a script.
-fn replay_bytes(alloc: Global, bytes: &[u8]) -> Result<String, ScriptFault>
-    requires { length bytes.now ≤ input_limit }
-    ensures text { IfOk result (λ text. IsReplay bytes.now (string_bytes text)) }
-    ensures cause { IfErr result (λ fault. Explains fault bytes.now) }
-{
-    let script = read_script(alloc, bytes)?;
-    let plant = play(alloc, script)?;
-    Ok(print_book(alloc, &plant)?)
-}
-
-/// Reads a script to its end, keeps its book, and writes the text of the book.
-fn replay<S: Source, O: Sink>(alloc: Global, input: &mut S, out: &mut O) -> Ended
-    ensures ends { (read : List ℕ) × IsReplayEnd result read
-        (change S.left S.faults input.old input.new) (change O.taken O.faults out.old out.new) }
-    ensures nothing { (result ≡ Ended.Done → ⊥) → (result ≡ Ended.WriteFault → ⊥) → out.new ≡ out.old }
-    ensures read_faults_stay { S.faults input.old ≤ S.faults input.new }
-    ensures write_faults_stay { O.faults out.old ≤ O.faults out.new }
-{
-    let bytes = match read_whole(alloc, input, SCRIPT_BYTES_MAX) {
-        Ok(bytes) => bytes,
-        Err(InputFault::Failed) => return Ended::ReadFault,
-        Err(InputFault::TooLong) => return Ended::TooLong {
-            limit: SCRIPT_BYTES_MAX,
-        },
-        Err(InputFault::NoMemory) => return Ended::NoMemory,
-    };
-    let text = match replay_bytes(alloc, &bytes) {
-        Ok(text) => text,
-        Err(ScriptFault::BadLine(line)) => {
-            let kind = LineKind::Form;
-            return Ended::BadLine { line, kind };
-        }
-        Err(ScriptFault::NoMemory) => return Ended::NoMemory,
-    };
-    match write_whole(out, text.as_bytes()) {
-        Ok(()) => Ended::Done,
-        Err(_) => Ended::WriteFault,
-    }
-}
-
 /// Does what the words of the command line ask for, with an input and an output. `replay` reads a script to
-/// its end, keeps its book, and writes the text of the book. `check` reads a site file to its end, and writes
-/// its summary.
+/// its end, replays it, and writes the text of its lives. `check` reads a site file to its end, and writes its
+/// summary.
 pub fn plain<S: Source, O: Sink>(
     alloc: Global,
     words: &Vec<String>,
@@ -105,8 +56,12 @@ pub fn plain<S: Source, O: Sink>(
 
     // The causes of the ends, by the bytes that the input tells.
     ensures bad_line { (line : ℕ) (kind : LineKind) → result ≡ Ended.BadLine line kind
-        → (kind ≡ LineKind.Form) × IfSome (S.left input.old) (λ bytes. LeavesFormAt bytes line) }
-    ensures bad_site { (fault : SiteFault) → result ≡ Ended.BadSite fault
+        → IfSome (S.left input.old) (λ bytes. IsFirstBadLine bytes line kind) }
+    ensures bad_site { AreReplay (map string_bytes words.now.items)
+        → (fault : SiteFault) → result ≡ Ended.BadSite fault
+        → IfSome (S.left input.old) (λ bytes. HasBadSite bytes fault) }
+    ensures check_bad_site { AreCheck (map string_bytes words.now.items)
+        → (fault : SiteFault) → result ≡ Ended.BadSite fault
         → IfSome (S.left input.old) (λ bytes. IsRefused bytes fault) }
     ensures too_long { (limit : ℕ) → result ≡ Ended.TooLong limit
         → IfSome (S.left input.old) (λ bytes. limit < length bytes) }
@@ -116,33 +71,61 @@ pub fn plain<S: Source, O: Sink>(
     ensures within { (result ≡ Ended.Done)
         ⊎ (result ≡ Ended.WriteFault)
         ⊎ ((line : ℕ) × (kind : LineKind) × (result ≡ Ended.BadLine line kind))
+        ⊎ ((fault : SiteFault) × (result ≡ Ended.BadSite fault))
+        ⊎ ((calls : ℕ) × (result ≡ Ended.BookFull calls))
         → IfSome (S.left input.old) (λ bytes. length bytes ≤ input_limit) }
     ensures read_fault { result ≡ Ended.ReadFault → Rose (S.faults input.old) (S.faults input.new) }
     ensures write_fault { result ≡ Ended.WriteFault → Rose (O.faults out.old) (O.faults out.new) }
 
-    // At Done the input was read to its end, and the output gained the text of the command; at WriteFault it
-    // gained a front of that text, and at every other end nothing.
-    ensures read { result ≡ Ended.Done → IsAtEnd (S.left input.new) }
+    // At Done and at BookFull the input was read to its end, and the output gained the text of the command; at
+    // WriteFault it gained a front of that text, and at every other end nothing.
+    ensures read { (result ≡ Ended.Done) ⊎ ((calls : ℕ) × (result ≡ Ended.BookFull calls))
+        → IsAtEnd (S.left input.new) }
     ensures gained { AreReplay (map string_bytes words.now.items) → IfSome (S.left input.old) (λ bytes.
         (result ≡ Ended.Done
-        → GainsText (IsReplay bytes) (change O.taken O.faults out.old out.new))
+        → GainsText (IsReplay bytes None) (change O.taken O.faults out.old out.new))
+        × ((calls : ℕ) → result ≡ Ended.BookFull calls
+        → GainsText (IsReplay bytes (Some calls)) (change O.taken O.faults out.old out.new))
         × (result ≡ Ended.WriteFault
-        → GainsFront (IsReplay bytes) (change O.taken O.faults out.old out.new))) }
+        → GainsFront (IsReplayText bytes) (change O.taken O.faults out.old out.new))) }
     ensures check_gained { AreCheck (map string_bytes words.now.items) → IfSome (S.left input.old) (λ bytes.
         (result ≡ Ended.Done
         → GainsText (IsCheck bytes) (change O.taken O.faults out.old out.new))
         × (result ≡ Ended.WriteFault
         → GainsFront (IsCheck bytes) (change O.taken O.faults out.old out.new))) }
-    ensures nothing { (result ≡ Ended.Done → ⊥) → (result ≡ Ended.WriteFault → ⊥) → out.new ≡ out.old }
+    ensures nothing { (result ≡ Ended.Done → ⊥) → ((calls : ℕ) → result ≡ Ended.BookFull calls → ⊥)
+        → (result ≡ Ended.WriteFault → ⊥) → out.new ≡ out.old }
 
-    // A script is replayed, and an input beyond its limit is too long, unless memory runs out, or the input
-    // or the output fails.
+    // The lives that a replay tells of are those of a plant that was commissioned, and safe at every moment.
+    ensures safe_lives { AreReplay (map string_bytes words.now.items)
+        → (result ≡ Ended.Done) ⊎ ((calls : ℕ) × (result ≡ Ended.BookFull calls))
+        → GainsText TellsSafeLives (change O.taken O.faults out.old out.new) }
+
+    // A script whose books have room is replayed, one that fills a book is replayed up to there, one with a bad
+    // line or a bad site is refused by it, and an input beyond its limit is too long, unless memory runs out, or
+    // the input or the output fails.
     ensures complete { AreReplay (map string_bytes words.now.items)
         → IfSome (S.left input.old) (λ bytes. length bytes ≤ input_limit
-        → (script : List Line) → IsScript bytes script
+        → HasRoom bytes
         → (Rose (S.faults input.old) (S.faults input.new) → ⊥)
         → (Rose (O.faults out.old) (O.faults out.new) → ⊥)
         → (result ≡ Ended.Done) ⊎ (result ≡ Ended.NoMemory)) }
+    ensures full { AreReplay (map string_bytes words.now.items)
+        → IfSome (S.left input.old) (λ bytes. length bytes ≤ input_limit
+        → (calls : ℕ) (text : List ℕ) → IsReplay bytes (Some calls) text
+        → (Rose (S.faults input.old) (S.faults input.new) → ⊥)
+        → (Rose (O.faults out.old) (O.faults out.new) → ⊥)
+        → (result ≡ Ended.BookFull calls) ⊎ (result ≡ Ended.NoMemory)) }
+    ensures refused_line { AreReplay (map string_bytes words.now.items)
+        → IfSome (S.left input.old) (λ bytes. length bytes ≤ input_limit
+        → (line : ℕ) (kind : LineKind) → IsFirstBadLine bytes line kind
+        → (Rose (S.faults input.old) (S.faults input.new) → ⊥)
+        → (result ≡ Ended.BadLine line kind) ⊎ (result ≡ Ended.NoMemory)) }
+    ensures refused_site { AreReplay (map string_bytes words.now.items)
+        → IfSome (S.left input.old) (λ bytes. length bytes ≤ input_limit
+        → (fault : SiteFault) → HasBadSite bytes fault
+        → (Rose (S.faults input.old) (S.faults input.new) → ⊥)
+        → (result ≡ Ended.BadSite fault) ⊎ (result ≡ Ended.NoMemory)) }
     ensures beyond { AreReplay (map string_bytes words.now.items)
         → IfSome (S.left input.old) (λ bytes. input_limit < length bytes
         → (Rose (S.faults input.old) (S.faults input.new) → ⊥)

@@ -1,6 +1,8 @@
-use crate::ended::{Ended, LineKind, status};
+use crate::ended::{Ended, status};
 use crate::plain::plain;
-use std::alloc::{AllocError, Global};
+use script_text::LineKind;
+use site_config::SiteFault;
+use std::alloc::Global;
 use std::process::Abort;
 use std::test::Fail;
 use world_traits::{BytesSink, BytesSource};
@@ -12,19 +14,90 @@ inverter 6000 0 -1 100
 begin 0
 ";
 
-const LINKED: [(&str, &str); 2] = [("link 0 0", "linked 1"), ("link 0 1", "linked 1")];
+const LINKS: &str = "link 0 0 = linked 1
+link 0 1 = linked 1
+";
 
-const RAISE: (&str, &str) = ("ask 66701 0 1000", "granted 1 1");
+const RAISE: &str = "ask 66701 0 1000 = granted 1 1
+";
 
-/// The head of a site with this cap in mW, this room and so many inverters.
-fn head(alloc: Global, cap: u64, room: u32, inverters: u32) -> Result<String, AllocError> {
-    let mut head = format!(in alloc; "site {cap} 1000 4000 60 20 500 open {room}\n")?;
-    for _ in 0..inverters {
-        head.push_str("inverter 6000 0 -1 100\n")?;
-    }
-    head.push_str("begin 0\n")?;
-    Ok(head)
-}
+/// A dead worker: its inverter goes back to its floor as its timed device runs out.
+const DEAD: &str = "site 10000000 1000 4000 60 20 500 open 1000
+inverter 6000 0 -1 100
+begin 1
+link 2 0 = linked 1
+ask 3 0 1000 = silent 66701
+read 4 0 = readas 1 1
+saw 6 0 1 100 = freed 0 600000
+ask 70007 0 1000 = granted 1 2
+read 70009 0 = readas 1 3
+tick 136707 = total 6000000
+tick 136708 = total 600000
+";
+
+/// What is appended to a script of the head, the links and the raise, with the replies.
+const BEHIND: [&str; 11] = [
+    "",
+    "ask 66702 1 667 = nowatts 3400000
+",
+    "ask 66702 1 666 = granted 1 1
+tick 66702 = total 9996000
+",
+    "roll = rolled
+tick 133401 = total 6600000
+tick 133402 = total 1200000
+",
+    "ask 70000 0 300 = granted 1 2
+read 70100 0 = readas 1 3
+saw 70200 0 3 300 = freed 1 1800000
+tick 70200 = total 2400000
+",
+    "link 67000 0 = linked 2
+ask 67100 0 300 = granted 2 1
+read 67200 0 = readas 2 2
+saw 67300 0 2 300 = freed 0 6000000
+read 71701 0 = readas 2 3
+saw 71701 0 3 300 = freed 0 6000000
+read 71702 0 = readas 2 4
+saw 71702 0 4 300 = freed 1 1800000
+",
+    "read 70000 0 = readas 1 2
+saw 70100 0 2 500 = strange 500
+tick 70100 = total 6600000
+ask 70200 0 200 = notallowed 100
+read 70300 0 = readas 1 3
+saw 70400 0 3 1000 = freed 0 6000000
+ask 70500 0 200 = granted 1 4
+",
+    "restart 80000 = begun
+link 80000 0 = linked 1
+ask 146700 0 1000 = silent 146700
+ask 146701 0 1000 = granted 1 1
+",
+    "back 66800 0 1 1 = taken
+tick 66800 = total 1200000
+back 66801 0 1 1 = nowrite
+ask 66802 0 1001 = over 1000
+ask 66803 0 1000 = granted 1 2
+",
+    "cap 70000 5000000 = capset 5000000 6600000
+ask 70001 1 101 = nowatts 0
+ask 70002 0 1000 = notallowed 416
+ask 70003 0 416 = granted 1 2
+read 70100 0 = readas 1 3
+saw 70200 0 3 416 = freed 1 2496000
+tick 70200 = total 3096000
+ask 70201 1 300 = granted 1 1
+cap 70300 1199999 = capout 1200000 10000000
+cap 70300 10000001 = capout 1200000 10000000
+",
+    "cap 70000 5000000 = capset 5000000 6600000
+tick 133401 = total 6600000
+tick 133402 = total 1200000
+ask 133403 0 734 = nowatts 3800000
+ask 133404 0 733 = granted 1 2
+",
+];
 
 /// What `plain` answers to a script, and what it writes. The calls of these numbers fail.
 fn run(
@@ -45,151 +118,156 @@ fn run(
     Ok((ended, output))
 }
 
-/// Adds calls to a script, and with their replies to a book.
-fn add(script: &mut String, book: &mut String, calls: &[(&str, &str)]) -> Result<(), Fail> {
-    for (call, reply) in calls {
-        write!(script, "{call}\n")?;
-        write!(book, "{call} = {reply}\n")?;
-    }
-    Ok(())
-}
-
-fn replays(
+/// How a script ends, and what it writes.
+fn ends(
     rt: &impl Abort,
     alloc: Global,
-    head: &str,
-    calls: &[&[(&str, &str)]],
+    script: &str,
+    ended: Ended,
+    text: &str,
 ) -> Result<(), Fail> {
-    let mut script = String::from_str(alloc, head)?;
-    let mut book = String::from_str(alloc, head)?;
-    for part in calls {
-        add(&mut script, &mut book, part)?;
-    }
-    let (ended, output) = run(alloc, &["replay"], script.as_str(), &[], &[])?;
-    assert_eq!(rt; ended, Ended::Done);
-    assert_eq!(rt; output.taken(), book.as_bytes());
+    let (found, output) = run(alloc, &["replay"], script, &[], &[])?;
+    assert_eq!(rt; found, ended, "{script}");
+    assert_eq!(rt; output.taken(), text.as_bytes());
     Ok(())
 }
 
-/// That a script is bad at this line, and that nothing is written.
-fn is_bad_at(rt: &impl Abort, alloc: Global, script: &str, line: u32) -> Result<(), Fail> {
-    let (ended, output) = run(alloc, &["replay"], script, &[], &[])?;
-    let kind = LineKind::Form;
-    assert_eq!(rt; ended, Ended::BadLine { line, kind }, "{script}");
-    assert_eq!(rt; status(&ended), 3);
-    assert!(rt; output.taken().is_empty());
-    Ok(())
+/// The text without its replies: the script of whose lives it is the text.
+fn asked(alloc: Global, text: &str) -> Result<String, Fail> {
+    let mut script = String::new(alloc);
+    for line in text.lines() {
+        let call = line.split(" =").next().unwrap_or("");
+        write!(&mut script, "{call}\n")?;
+    }
+    Ok(script)
+}
+
+/// That a text is that of the lives of its own calls.
+fn replays(rt: &impl Abort, alloc: Global, text: &str) -> Result<(), Fail> {
+    let script = asked(alloc, text)?;
+    ends(rt, alloc, script.as_str(), Ended::Done, text)
 }
 
 #[test]
-fn a_script_comes_out_as_its_book(rt: HostRuntime) -> Result<(), Fail> {
-    let rows: [&[(&str, &str)]; 5] = [
-        &[("ask 66700 0 1000", "silent 66700")],
-        &[RAISE, ("ask 66702 1 667", "nowatts 3400000")],
-        &[
-            RAISE,
-            ("ask 66702 1 666", "granted 1 1"),
-            ("tick 66702", "total 9996000"),
-        ],
-        &[
-            RAISE,
-            ("tick 133401", "total 6600000"),
-            ("tick 133402", "total 1200000"),
-        ],
-        &[("ask 66701 0 1001", "over 1000")],
-    ];
-    for calls in rows {
-        replays(&rt, rt.alloc(), HEAD, &[&LINKED, calls])?;
+fn a_script_comes_out_as_the_text_of_its_lives(rt: HostRuntime) -> Result<(), Fail> {
+    for behind in BEHIND {
+        let text = format!(in rt.alloc(); "{HEAD}{LINKS}{RAISE}{behind}")?;
+        replays(&rt, rt.alloc(), text.as_str())?;
     }
-    replays(
-        &rt,
-        rt.alloc(),
-        HEAD,
-        &[&[("ask 66700 0 1000", "unlinked")]],
-    )?;
-    let least_cap = head(rt.alloc(), 1_200_000, 1000, 2)?;
-    let no_watts = [("ask 66701 0 101", "nowatts 0")];
-    replays(&rt, rt.alloc(), least_cap.as_str(), &[&LINKED, &no_watts])?;
-    let greatest = head(rt.alloc(), 100_000_000_000_000, 1, 64)?;
-    let last = [("link 0 63", "linked 1")];
-    replays(&rt, rt.alloc(), greatest.as_str(), &[&last])
+    let unlinked = format!(in rt.alloc(); "{HEAD}ask 66700 0 1000 = unlinked\n")?;
+    replays(&rt, rt.alloc(), unlinked.as_str())?;
+    replays(&rt, rt.alloc(), DEAD)
+}
+
+#[test]
+fn a_read_that_nobody_asked_for_is_seen_by_none(rt: HostRuntime) -> Result<(), Fail> {
+    let text = format!(in rt.alloc(); "{HEAD}{LINKS}ask 0 0 1000 = silent 66700
+saw 10 0 1 100 = noread
+read 20 0 = readas 1 1
+saw 30 0 1 100 = freed 0 600000
+saw 40 0 1 100 = noread
+")?;
+    replays(&rt, rt.alloc(), text.as_str())
 }
 
 #[test]
 fn the_33rd_live_write_is_crowded(rt: HostRuntime) -> Result<(), Fail> {
-    let mut script = String::from_str(rt.alloc(), HEAD)?;
-    let mut book = String::from_str(rt.alloc(), HEAD)?;
-    add(&mut script, &mut book, &LINKED)?;
+    let mut text = format!(in rt.alloc(); "{HEAD}{LINKS}")?;
     for number in 1..33 {
         let at = 66_700 + number;
-        write!(script, "ask {at} 0 100\n")?;
-        write!(book, "ask {at} 0 100 = granted 1 {number}\n")?;
+        write!(&mut text, "ask {at} 0 100 = granted 1 {number}\n")?;
     }
-    add(&mut script, &mut book, &[("ask 66733 0 100", "crowded")])?;
-    let (ended, output) = run(rt.alloc(), &["replay"], script.as_str(), &[], &[])?;
-    assert_eq!(rt; ended, Ended::Done);
-    assert_eq!(rt; output.taken(), book.as_bytes());
-    Ok(())
+    text.push_str("ask 66733 0 100 = crowded\n")?;
+    replays(&rt, rt.alloc(), text.as_str())
 }
 
 #[test]
-fn a_long_script_with_the_greatest_room_comes_out_whole(rt: HostRuntime) -> Result<(), Fail> {
-    let mut script = head(rt.alloc(), 10_000_000, 1_048_576, 2)?;
-    let mut book = String::from_str(rt.alloc(), script.as_str())?;
-    for at in 0..1100 {
-        write!(script, "tick {at}\n")?;
-        write!(book, "tick {at} = total 1200000\n")?;
-    }
-    let last = [("tick 1000000000000000", "total 1200000")];
-    add(&mut script, &mut book, &last)?;
-    let (ended, output) = run(rt.alloc(), &["replay"], script.as_str(), &[], &[])?;
-    assert_eq!(rt; ended, Ended::Done);
-    assert_eq!(rt; output.taken(), book.as_bytes());
-    Ok(())
+fn wants_lower_what_others_may(rt: HostRuntime) -> Result<(), Fail> {
+    let head = "site 10000000 1000 4000 60 20 500 fair 1000
+inverter 6000 0 -1 100
+inverter 6000 0 -1 100
+begin 0
+";
+    let wanting = format!(in rt.alloc(); "{head}{LINKS}want 10 0 9000000 = taken
+want 10 1 2000000 = taken
+ask 66701 0 1000 = granted 1 1
+ask 66701 1 334 = notallowed 333
+")?;
+    replays(&rt, rt.alloc(), wanting.as_str())?;
+    let even = format!(in rt.alloc(); "{head}{LINKS}ask 66701 0 834 = notallowed 833\n")?;
+    replays(&rt, rt.alloc(), even.as_str())
 }
 
 #[test]
-fn a_bad_line_is_told_by_its_number(rt: HostRuntime) -> Result<(), Fail> {
-    is_bad_at(&rt, rt.alloc(), "", 1)?;
-    is_bad_at(
-        &rt,
-        rt.alloc(),
-        "site 10000000 1000 4000 60 20 500 open 1000\n",
-        2,
-    )?;
+fn a_cap_below_the_floors_is_a_bad_site(rt: HostRuntime) -> Result<(), Fail> {
+    let head = "inverter 6000 0 -1 100
+inverter 6000 0 -1 100
+begin 0
+";
+    let low = format!(in rt.alloc(); "site 1199999 1000 4000 60 20 500 open 1000\n{head}")?;
+    let fault = SiteFault::FloorsOverCap(1_200_000);
+    ends(&rt, rt.alloc(), low.as_str(), Ended::BadSite(fault), "")?;
+    let none = "site 1 1000 4000 60 20 500 open 1000\nbegin 0\n";
+    let fault = SiteFault::NoInverter;
+    ends(&rt, rt.alloc(), none, Ended::BadSite(fault), "")?;
+    let mut many = String::from_str(rt.alloc(), "site 1 1 1 5 0 0 open 1\n")?;
+    for _ in 0..65 {
+        many.push_str("inverter 6000 0 -1 100\n")?;
+    }
+    many.push_str("begin 0\n")?;
+    let fault = SiteFault::TooManyInverters(65);
+    ends(&rt, rt.alloc(), many.as_str(), Ended::BadSite(fault), "")?;
+    let least = format!(in rt.alloc(); "site 1200000 1000 4000 60 20 500 open 1000
+{head}{LINKS}ask 66701 0 101 = nowatts 0
+")?;
+    replays(&rt, rt.alloc(), least.as_str())
+}
+
+#[test]
+fn a_full_book_ends_the_replay(rt: HostRuntime) -> Result<(), Fail> {
+    let head = "inverter 6000 0 -1 100
+inverter 6000 0 -1 100
+begin 0
+";
+    let site = "site 10000000 1000 4000 60 20 500 open";
+    let ticks = format!(in rt.alloc(); "{site} 3
+{head}tick 0 = total 1200000
+tick 0 = total 1200000
+tick 0 = total 1200000
+")?;
+    let mut script = asked(rt.alloc(), ticks.as_str())?;
+    script.push_str("tick 0\n")?;
+    let full = |calls| Ended::BookFull { calls };
+    ends(&rt, rt.alloc(), script.as_str(), full(3), ticks.as_str())?;
+    assert_eq!(rt; status(&full(3)), 5);
+    let links = format!(in rt.alloc(); "{site} 2\n{head}{LINKS}")?;
+    let rest = "ask 66701 0 1000 = granted 1 1
+read 70000 0 = readas 1 2
+roll = rolled
+saw 70100 0 2 100 = freed 1 600000
+";
+    let rolled = format!(in rt.alloc(); "{links}roll = rolled\n{rest}")?;
+    replays(&rt, rt.alloc(), rolled.as_str())?;
+    let unrolled = format!(in rt.alloc(); "{links}{rest}")?;
+    let unrolled = asked(rt.alloc(), unrolled.as_str())?;
+    ends(&rt, rt.alloc(), unrolled.as_str(), full(2), links.as_str())
+}
+
+#[test]
+fn a_bad_line_is_told_by_its_number_and_its_kind(rt: HostRuntime) -> Result<(), Fail> {
+    let bad = |line, kind| Ended::BadLine { line, kind };
+    ends(&rt, rt.alloc(), "", bad(1, LineKind::Form), "")?;
     let rows = [
-        ("link 0 0\nlink 0 1\nask 66701 0 1000\nread 70000 0\n", 8),
-        ("ask 5 2 1\n", 5),
-        ("ask 5 0 65536\n", 5),
-        ("ask 05 0 1\n", 5),
-        ("link 9 0\ntick 8\n", 6),
-        ("tick 1000000000000001\n", 5),
-        ("tick 8", 5),
+        ("ask 5 2 1\n", 5, LineKind::Inverter),
+        ("ask 5 0 65536\n", 5, LineKind::Value),
+        ("ask 05 0 1\n", 5, LineKind::Form),
+        ("# a comment\n\nlink 9 0\ntick 8\n", 8, LineKind::Time),
     ];
-    for (calls, line) in rows {
+    for (calls, line, kind) in rows {
         let script = format!(in rt.alloc(); "{HEAD}{calls}")?;
-        is_bad_at(&rt, rt.alloc(), script.as_str(), line)?;
+        ends(&rt, rt.alloc(), script.as_str(), bad(line, kind), "")?;
     }
     Ok(())
-}
-
-#[test]
-fn a_head_that_opens_no_book_is_bad_at_its_begin_line(rt: HostRuntime) -> Result<(), Fail> {
-    let rows = [
-        (1_199_999, 1, 2, 4),
-        (10_000_000, 1, 0, 2),
-        (100_000_000_000_000, 1_048_576, 65, 67),
-        (100_000_000_000_001, 1, 2, 1),
-        (10_000_000, 1_048_577, 2, 1),
-        (10_000_000, 0, 2, 1),
-    ];
-    for (cap, room, inverters, line) in rows {
-        let script = head(rt.alloc(), cap, room, inverters)?;
-        is_bad_at(&rt, rt.alloc(), script.as_str(), line)?;
-    }
-    let mut full = head(rt.alloc(), 10_000_000, 3, 2)?;
-    full.push_str("tick 0\ntick 0\ntick 0\ntick 0\n")?;
-    is_bad_at(&rt, rt.alloc(), full.as_str(), 8)
 }
 
 #[test]
@@ -197,12 +275,10 @@ fn a_fault_of_the_input_or_the_output_ends_the_replay(rt: HostRuntime) -> Result
     for call in 0..2 {
         let (ended, output) = run(rt.alloc(), &["replay"], HEAD, &[call], &[])?;
         assert_eq!(rt; ended, Ended::ReadFault);
-        assert_eq!(rt; status(&ended), 6);
         assert!(rt; output.taken().is_empty());
     }
     let (ended, _) = run(rt.alloc(), &["replay"], HEAD, &[], &[0])?;
     assert_eq!(rt; ended, Ended::WriteFault);
-    assert_eq!(rt; status(&ended), 7);
     Ok(())
 }
 
@@ -212,44 +288,38 @@ fn other_words_are_bad(rt: HostRuntime) -> Result<(), Fail> {
     for words in rows {
         let (ended, output) = run(rt.alloc(), words, HEAD, &[], &[])?;
         assert_eq!(rt; ended, Ended::BadWords);
-        assert_eq!(rt; status(&ended), 2);
         assert!(rt; output.taken().is_empty());
     }
     Ok(())
 }
 
 #[test]
-fn each_end_has_its_line(rt: HostRuntime) -> Result<(), Fail> {
+fn each_end_has_its_line_and_its_status(rt: HostRuntime) -> Result<(), Fail> {
     let bad_line = |kind| Ended::BadLine { line: 8, kind };
     let rows = [
-        (Ended::BadWords, "bad words"),
-        (bad_line(LineKind::Form), "line 8: form"),
-        (bad_line(LineKind::Inverter), "line 8: inverter"),
-        (bad_line(LineKind::Time), "line 8: time"),
-        (bad_line(LineKind::Value), "line 8: value"),
-        (Ended::ReadFault, "read fault"),
-        (Ended::WriteFault, "write fault"),
-        (Ended::NoMemory, "no memory"),
-        (Ended::TooLong { limit: 134_217_728 }, "too long: 134217728"),
+        (Ended::BadWords, "bad words", 2),
+        (bad_line(LineKind::Form), "line 8: form", 3),
+        (bad_line(LineKind::Inverter), "line 8: inverter", 3),
+        (bad_line(LineKind::Time), "line 8: time", 3),
+        (bad_line(LineKind::Value), "line 8: value", 3),
+        (
+            Ended::BadSite(SiteFault::FloorsOverCap(1_200_000)),
+            "bad site: floorsovercap 1200000",
+            4,
+        ),
+        (Ended::BookFull { calls: 3 }, "book full: 3", 5),
+        (Ended::ReadFault, "read fault", 6),
+        (Ended::WriteFault, "write fault", 7),
+        (Ended::NoMemory, "no memory", 8),
+        (
+            Ended::TooLong { limit: 134_217_728 },
+            "too long: 134217728",
+            9,
+        ),
     ];
-    for (ended, line) in rows {
+    for (ended, line, number) in rows {
         assert_eq!(rt; format!(in rt.alloc(); "{ended}")?.as_str(), line);
+        assert_eq!(rt; status(&ended), number);
     }
     Ok(())
-}
-
-#[test]
-fn ends_differ_by_their_lines_kinds_and_names(rt: HostRuntime) {
-    let (line, kind) = (8, LineKind::Form);
-    let ended = Ended::BadLine { line, kind };
-    assert!(rt; ended != Ended::BadLine { line: 9, kind });
-    assert!(rt;
-        ended
-            != Ended::BadLine {
-                line,
-                kind: LineKind::Time
-            }
-    );
-    assert!(rt; Ended::Done != Ended::WriteFault);
-    assert!(rt; kind != LineKind::Value);
 }

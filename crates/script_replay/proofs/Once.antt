@@ -1,5 +1,5 @@
 -- A script has one replay, and its text is replayed as itself.
-use Rattle.std.proofs.Common.{◌≡◌, ℕ, suc, ◌+◌, ◌<◌, ◌≤◌, Bool, true, false, eqb, ltb, List, [], ◌∷◌, ◌++◌, length, map, Option, Some, None, refl, sym, ap, subst, ◌∙◌, arith, append_assoc}
+use Rattle.std.proofs.Common.{◌≡◌, ℕ, suc, ◌+◌, ◌<◌, ◌≤◌, ◌⊎◌, inl, inr, Bool, true, false, eqb, ltb, List, [], ◌∷◌, ◌++◌, length, map, Option, Some, None, refl, sym, ap, subst, ◌∙◌, arith, append_assoc}
 use Rattle.std.proofs.lemmas.Bool.{ne_eqb, le-ltb}
 use Rattle.std.proofs.lemmas.List.{append-nil, map-append}
 use Rattle.plant_book.specs.declared.call.Call.{Call}
@@ -15,7 +15,7 @@ use Rattle.script_text.specs.declared.line.Line.TheVariants as lines
 use Rattle.script_text.specs.Grammar.{Statement, Says}
 use Rattle.script_text.specs.Script.{ScriptRecord, IsScript, EachMayFollow, head_statements, script_statements}
 use Rattle.script_text.specs.Text.{Deed, Entered, Begun, Rolled, deed_line, lives_text}
-use Rattle.script_text.proofs.Once.{one_script, not_both}
+use Rattle.script_text.proofs.Once.{one_script, one_line, not_both}
 use Rattle.script_text.proofs.Back.{reads_back}
 use Rattle.script_replay.specs.declared.replay.ReplayFault.{ReplayFault}
 use Rattle.script_replay.specs.declared.replay.ReplayFault.TheVariants as faults
@@ -165,3 +165,30 @@ not_full bytes calls text room p =
     let done = subst (λ (s : ScriptRecord). AreDone (first_chain s.site s.start) room.deeds) same room.done in
     let all : map deed_line room.deeds ≡ p.script.lines = room.all ∙ ap (λ (s : ScriptRecord). s.lines) same in
     no_further (first_chain p.script.site p.script.start) p.deeds room.deeds p.reaches.0 p.reaches.1 p.done done (at_room p.script p.deeds p.reaches.3) (all ∙ p.reaches.2)
+
+-- ---- one fault
+
+pub replay_stands : (bytes : List ℕ) (full : Option ℕ) (text : List ℕ) (fault : ReplayFault) → IsReplay bytes full text → Explains fault bytes → fault ≡ faults.NoMemory
+replay_stands bytes full text faults.NoMemory p explains = refl
+replay_stands bytes full text (faults.BadLine line kind) p explains = absurd (not_both bytes p.script line kind p.is_script explains)
+replay_stands bytes full text (faults.BadSite fault) p explains =
+    let same : explains.script ≡ p.script = one_script bytes explains.script p.script explains.is_script p.is_script in
+    absurd (no_fault fault (open_fault p.script.site) (ap (λ (s : ScriptRecord). open_fault s.site) (sym same) ∙ explains.refused) (openable_is p.script.site p.openable))
+
+some_fault : (found : Option OpenFault) (f g : OpenFault) → found ≡ Some f → found ≡ Some g → f ≡ g
+some_fault None f g p q = absurd cc
+some_fault (Some other) f g p q = cc
+
+pub one_fault : (bytes : List ℕ) (f g : ReplayFault) → Explains f bytes → Explains g bytes → (f ≡ faults.NoMemory) ⊎ ((g ≡ faults.NoMemory) ⊎ (f ≡ g))
+one_fault bytes faults.NoMemory g p q = inl refl
+one_fault bytes (faults.BadLine line kind) faults.NoMemory p q = inr (inl refl)
+one_fault bytes (faults.BadLine line kind) (faults.BadLine other more) p q =
+    let same = one_line bytes line other kind more p q in
+    inr (inr (λ i. faults.BadLine (same.0 i) (same.1 i)))
+one_fault bytes (faults.BadLine line kind) (faults.BadSite fault) p q = absurd (not_both bytes q.script line kind q.is_script p)
+one_fault bytes (faults.BadSite fault) faults.NoMemory p q = inr (inl refl)
+one_fault bytes (faults.BadSite fault) (faults.BadLine line kind) p q = absurd (not_both bytes p.script line kind p.is_script q)
+one_fault bytes (faults.BadSite fault) (faults.BadSite other) p q =
+    let same : q.script ≡ p.script = one_script bytes q.script p.script q.is_script p.is_script in
+    let one : fault ≡ other = some_fault (open_fault p.script.site) fault other p.refused (ap (λ (s : ScriptRecord). open_fault s.site) (sym same) ∙ q.refused) in
+    inr (inr (ap faults.BadSite one))
