@@ -249,9 +249,9 @@ ended start turns old new kept stands turn =
           ∙ both_steps (up_links done visit.link) (λ (l : Links). after_hang_up (with_bytes sent (after_receive came l))) start.state.links)
           ∙ over_came done visit next came sent refl turn.6.unsent start.state.links,
       ap (λ (o : Option Links). option_map link_up o) (turn.6.links
-      ∙ ap (λ (o : Option Links). option_map (λ (l : Links). after_hang_up (with_bytes sent (after_receive came l))) o) stands.5
-      ∙ both_steps (up_links done visit.link) (λ (l : Links). after_hang_up (with_bytes sent (after_receive came l))) start.state.links)
-      ∙ none_up done next (λ (l : Links). with_bytes sent (after_receive came (up_links done visit.link l))) turn.5 start.state.links,
+          ∙ ap (λ (o : Option Links). option_map (λ (l : Links). after_hang_up (with_bytes sent (after_receive came l))) o) stands.5
+          ∙ both_steps (up_links done visit.link) (λ (l : Links). after_hang_up (with_bytes sent (after_receive came l))) start.state.links)
+          ∙ none_up done next (λ (l : Links). with_bytes sent (after_receive came (up_links done visit.link l))) turn.5 start.state.links,
     )
 
 attended_so : (start : Start) (turns : ℕ) (old new : State) (kept : List ℕ) (after : Option (List ℕ)) → Stands start turns old (Some kept)
@@ -293,7 +293,7 @@ missed start turns old new line down stands_so bank recorded rose =
       ap (λ (o : Option Links). option_map all_links o) recorded ∙ both_steps (λ (l : Links). l) all_links old.links ∙ stands.3
           ∙ ap (λ (v : List Visit). option_map (λ (l : Links). all_links l ++ map (λ x. x.link) v) start.state.links) (sym same),
       ap (λ (o : Option Links). option_map link_up o) recorded ∙ both_steps (λ (l : Links). l) link_up old.links ∙ stands.4
-      ∙ ap (λ (v : List Visit). option_map (λ (l : Links). up_behind l.current v) start.state.links) (sym same),
+          ∙ ap (λ (v : List Visit). option_map (λ (l : Links). up_behind l.current v) start.state.links) (sym same),
     )
 
 -- a dial that made a link
