@@ -429,6 +429,7 @@ refused_of : NotBoth → OneFault → (ended : Ended) (read : List ℕ) (site : 
 refused_of not_both one (ends.BadSite found) read site row =
     if_some_more site.old (λ bytes. IsRefused bytes found) _ (λ bytes refused short fault is no_fault. inl (ap ends.BadSite (one bytes found fault refused is)))
     (told_whole site.old site.new read (λ bytes. IsRefused bytes found) row.1.bytes row.1.at_end row.0)
+refused_of not_both one (ends.BookFull _) read site row = elim row [ ]
 refused_of not_both one ends.ReadFault read site row = if_some_all site.old _ (λ bytes short fault is no_fault. absurd (no_fault row.0))
 refused_of not_both one ends.NoMemory read site row = if_some_all site.old _ (λ bytes short fault is no_fault. inr refl)
 refused_of not_both one (ends.TooLong limit) read site row =
@@ -479,6 +480,7 @@ beyond_of : (ended : Ended) (read : List ℕ) (site : Change) → FindsNoSite en
 beyond_of (ends.BadSite found) read site row =
     if_some_more site.old (λ bytes. length bytes ≤ site_limit) _ (λ bytes short long no_fault. absurd (omega (arith, short, long)))
     (told_whole site.old site.new read (λ bytes. length bytes ≤ site_limit) row.1.bytes row.1.at_end row.1.within)
+beyond_of (ends.BookFull _) read site row = elim row [ ]
 beyond_of ends.ReadFault read site row = if_some_all site.old _ (λ bytes long no_fault. absurd (no_fault row.0))
 beyond_of ends.NoMemory read site row = if_some_all site.old _ (λ bytes long no_fault. inr refl)
 beyond_of (ends.TooLong limit) read site row = if_some_all site.old _ (λ bytes long no_fault. inl (ap ends.TooLong row.0))
