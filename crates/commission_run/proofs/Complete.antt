@@ -1,5 +1,5 @@
 -- Where the replies of an inverter that is commissioned came and no call failed, there is no other end than done.
-use Rattle.std.proofs.Common.{◌≡◌, ℕ, ◌≤◌, cond, List, [], ◌∷◌, ◌++◌, map, fold, Bool, false, Option, Some, None, Result, Ok, Err, refl, sym, ap, subst, ◌∙◌}
+use Rattle.std.proofs.Common.{◌≡◌, ℕ, cond, List, [], ◌∷◌, ◌++◌, map, fold, false, Option, Some, None, Result, Ok, Err, refl, sym, ap, subst, ◌∙◌}
 use Rattle.std.specs.Prelude.{IsOk, IsSome, is_some, is_err, OnOk, option_map}
 use Rattle.std.specs.List.{AllByRecursion}
 use Rattle.std.proofs.lemmas.List.Sums.{fold-append}
@@ -12,10 +12,9 @@ use Rattle.commissioning.specs.declared.fault.CommissionFault.{CommissionFault}
 use Rattle.commissioning.specs.declared.target.Target.{Target}
 use Rattle.commissioning.specs.Stage.{Stage, Standing, Commissioned}
 use Rattle.commissioning.specs.Asking.{asked, asked_pdu, request_frame, start}
-use Rattle.commissioning.specs.Taking.{taken, answer, outcome}
+use Rattle.commissioning.specs.Taking.{taken, outcome}
 use Rattle.commissioning.specs.Runs.{after, standing_after}
 use Rattle.commissioning.proofs.Moves.{standing_after-taken}
-use Rattle.commission_run.specs.declared.stop.Stop.{Stop}
 use Rattle.commission_run.specs.declared.stop.Stop.TheVariants.{WriteFailed, Refused}
 use Rattle.commission_run.specs.declared.stop.Refusal.TheVariants as by
 use Rattle.commission_run.specs.Course.{with_past_link}

@@ -1,5 +1,5 @@
 -- A commissioning begins, a piece comes, and a frame is taken: each time it goes on.
-use Rattle.std.proofs.Common.{◌≡◌, ℕ, List, [], ◌∷◌, ◌++◌, length, map, Option, Some, None, Result, Ok, inl, refl, sym, ap, subst, ◌∙◌, append_assoc, append-nil}
+use Rattle.std.proofs.Common.{◌≡◌, ℕ, List, [], ◌∷◌, ◌++◌, length, Option, Ok, inl, refl, sym, ap, subst, ◌∙◌, append_assoc, append-nil}
 use Rattle.std.specs.Prelude.{IsSome, option_to_list}
 use Rattle.std.specs.Io.KnownBytes.{Appends}
 use Rattle.std.proofs.KnownBytes.{Appends-trans}
@@ -8,10 +8,9 @@ use Rattle.std.proofs.lemmas.List.Concat.{flat_map-append}
 use Rattle.world_traits.specs.Links.{Answer, Bytes, Link, received_bytes, answer_bytes, new_link, link_with_bytes, link_with_receipt}
 use Rattle.mbap_frames.specs.declared.frame.Frame.{Frame}
 use Rattle.mbap_frames.specs.Frame.{IsFrame, frame_spelling}
-use Rattle.mbap_frames.specs.Stream.{IsUnfinished, IsStream, frames_spelling}
+use Rattle.mbap_frames.specs.Stream.{IsUnfinished, frames_spelling}
 use Rattle.mbap_frames.proofs.Streams.{all_frames, spelling-append}
 use Rattle.commissioning.specs.declared.commission.Took.{Took}
-use Rattle.commissioning.specs.declared.commission.Took.TheVariants as took
 use Rattle.commissioning.specs.declared.target.Target.{Target}
 use Rattle.commissioning.specs.Stage.{Standing, found_at}
 use Rattle.commissioning.specs.Asking.{start, asked}

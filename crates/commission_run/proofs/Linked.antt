@@ -1,7 +1,7 @@
 -- What a call makes of the record of a link that is up, and what one receive more makes of its receives.
 use Rattle.std.proofs.Common.{◌≡◌, ℕ, List, [], ◌∷◌, ◌++◌, length, Option, Some, None, refl, sym, ap, subst, ◌∙◌, append_assoc, append-nil}
 use Rattle.std.specs.Option.{option_map}
-use Rattle.std.specs.Prelude.{IfSome, map}
+use Rattle.std.specs.Prelude.{IfSome}
 use Rattle.std.specs.List.{flat_map}
 use Rattle.std.proofs.lemmas.List.Concat.{flat_map-append}
 use Rattle.world_traits.specs.Links.{Answer, Failed, Link, Links, Receipt, answer_bytes, received_bytes, after_hang_up, link_with_bytes, link_with_receipt, with_bytes, with_receipt, with_failure}

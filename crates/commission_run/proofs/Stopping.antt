@@ -1,14 +1,13 @@
 -- A commissioning stops: what stands on its link and in its output then.
-use Rattle.std.proofs.Common.{◌≡◌, ℕ, ◌<◌, Bool, false, cond, List, [], ◌∷◌, ◌++◌, length, map, take, Option, Some, None, Result, Ok, Err, inr, refl, sym, ap, subst, ◌∙◌, append_assoc, append-nil}
+use Rattle.std.proofs.Common.{◌≡◌, ℕ, Bool, false, cond, List, [], ◌∷◌, ◌++◌, length, map, take, Option, Some, Ok, Err, inr, refl, sym, ap, subst, ◌∙◌, append_assoc, append-nil}
 use Rattle.std.specs.Prelude.{IsSome, is_some, IfSome, OnOk, OnErr, option_map, option_to_list}
 use Rattle.std.specs.Io.KnownBytes.{Appends}
 use Rattle.std.proofs.KnownBytes.{Appends-trans, Appends-nil}
 use Rattle.std.proofs.lemmas.List.{map-append}
-use Rattle.world_traits.specs.Links.{Answer, Bytes, Quiet, Closed, Failed, Link, Links, IsCutShort, received_bytes, answer_bytes, new_link, link_with_bytes, link_with_receipt, with_bytes}
+use Rattle.world_traits.specs.Links.{Answer, Bytes, Quiet, Closed, Failed, Link, Links, received_bytes, answer_bytes, new_link, link_with_bytes, link_with_receipt}
 use Rattle.mbap_frames.specs.declared.frame.Frame.{Frame}
-use Rattle.mbap_frames.specs.declared.frame.FrameFault.{FrameFault}
 use Rattle.mbap_frames.specs.Frame.{IsFrame, frame_spelling}
-use Rattle.mbap_frames.specs.Stream.{IsUnfinished, HasFault, frames_spelling}
+use Rattle.mbap_frames.specs.Stream.{IsUnfinished, frames_spelling}
 use Rattle.mbap_frames.proofs.Streams.{all_frames}
 use Rattle.readback.specs.Frames.{read_pdu}
 use Rattle.commissioning.specs.declared.fault.CommissionFault.{CommissionFault}
@@ -20,10 +19,9 @@ use Rattle.commissioning.specs.Taking.{is_skipped, taken, answer, outcome}
 use Rattle.commissioning.specs.Runs.{standing_after, requests, request_by}
 use Rattle.commission_run.specs.declared.stop.Stop.{Stop}
 use Rattle.commission_run.specs.declared.stop.Stop.TheVariants.{WriteFailed, Refused}
-use Rattle.commission_run.specs.declared.stop.Refusal.{Refusal}
 use Rattle.commission_run.specs.declared.stop.Refusal.TheVariants as by
 use Rattle.commission_run.specs.Lines.{AppendsFront, found_text, end_text, passed_text, commissioned_line}
-use Rattle.commission_run.specs.Course.{AreFirst, answered}
+use Rattle.commission_run.specs.Course.{answered}
 use Rattle.commission_run.specs.Ends.{Outcome, IsSent, IsCause, IsWritten, last_answer, IsCourse}
 use Rattle.commission_run.specs.Arriving.{Arrives, CutsShort, IsHandled, gained_text}
 use Rattle.commission_run.specs.Going.{IsGoing}

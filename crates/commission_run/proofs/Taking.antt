@@ -1,5 +1,5 @@
 -- A frame is taken off the bytes that are held, and handed to a commissioning.
-use Rattle.std.proofs.Common.{◌≡◌, ℕ, ◌+◌, ◌-◌, ◌≤◌, Bool, true, false, cond, List, [], ◌∷◌, ◌++◌, length, take, drop, Option, Some, None, Result, Ok, Err, IfErr, OnOk, refl, sym, ap, subst, ◌∙◌, append_assoc, append-nil, arith}
+use Rattle.std.proofs.Common.{◌≡◌, ℕ, ◌+◌, ◌-◌, ◌≤◌, Bool, true, false, cond, List, [], ◌++◌, take, drop, Option, Some, None, Result, Ok, Err, IfErr, OnOk, refl, sym, ap, subst, ◌∙◌, append_assoc, append-nil, arith}
 use Rattle.std.specs.Prelude.{option_to_list}
 use Rattle.std.specs.Option.{option_map}
 use Rattle.std.specs.List.{slice_range}
@@ -13,12 +13,10 @@ use Rattle.mbap_frames.specs.declared.frames.Fed.{Fed}
 use Rattle.mbap_frames.specs.Frame.{IsFrame, frame_spelling}
 use Rattle.mbap_frames.specs.Stream.{frames_spelling}
 use Rattle.mbap_frames.specs.Feed.{IsFed, frames_of, Leaves}
-use Rattle.commissioning.specs.declared.commission.Took.{Took}
 use Rattle.commissioning.specs.declared.commission.Took.TheVariants as took
-use Rattle.commissioning.specs.declared.fault.CommissionFault.{CommissionFault}
 use Rattle.commissioning.specs.Stage.{Standing}
 use Rattle.commissioning.specs.Asking.{asked}
-use Rattle.commissioning.specs.Taking.{is_skipped, taken, answer, outcome}
+use Rattle.commissioning.specs.Taking.{is_skipped, taken, answer}
 use Rattle.commissioning.specs.Runs.{request_by}
 use Rattle.commission_run.specs.declared.stop.Stop.{Stop}
 use Rattle.commission_run.specs.declared.stop.Stop.TheVariants.{WriteFailed, Refused}

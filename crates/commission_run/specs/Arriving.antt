@@ -1,14 +1,13 @@
 -- What comes over a link, and what is done with a frame that came. No promise to a caller names this.
 use Rattle.std.specs.Prelude.{◌≡◌, ℕ, ◌<◌, List, [], ◌∷◌, ◌++◌, length, Option, Some, None, Result, Ok, Err, IsSome, option_map}
 use Rattle.std.specs.Io.KnownBytes.{Appends}
-use Rattle.world_traits.specs.Links.{Bytes, Quiet, Closed, Link, Links, IsCutShort, all_links, with_bytes, with_receipt, with_failure}
+use Rattle.world_traits.specs.Links.{Bytes, Quiet, Closed, Link, Links, IsCutShort, with_bytes, with_receipt, with_failure}
 use Rattle.mbap_frames.specs.declared.frame.Frame.{Frame}
 use Rattle.mbap_frames.specs.Frame.{IsFrame, frame_spelling}
 use Rattle.mbap_frames.specs.Stream.{IsUnfinished, HasFault, frames_spelling}
 use Rattle.commissioning.specs.declared.commission.Took.{Took}
 use Rattle.commissioning.specs.declared.found.Record702.{Record702}
 use Rattle.commissioning.specs.Stage.{Standing, found_at}
-use Rattle.commissioning.specs.Asking.{asked}
 use Rattle.commissioning.specs.Taking.{taken, answer}
 use Rattle.commissioning.specs.Runs.{request_by}
 use Rattle.commission_run.specs.declared.stop.Stop.{Stop}

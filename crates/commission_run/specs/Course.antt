@@ -1,5 +1,5 @@
 -- What passes over the link of a commissioning: the requests that are sent, and where each receive stands.
-use Rattle.std.specs.Prelude.{◌≡◌, ℕ, List, [], ◌∷◌, ◌++◌, length, map, IsSome, Some, None}
+use Rattle.std.specs.Prelude.{◌≡◌, ℕ, List, [], ◌∷◌, ◌++◌, length, map, IsSome, None}
 use Rattle.std.specs.List.{AllByRecursion}
 use Rattle.world_traits.specs.Links.{Link, Links, Receipt, all_links, answer_bytes}
 use Rattle.mbap_frames.specs.declared.frame.Frame.{Frame}

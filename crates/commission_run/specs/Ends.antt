@@ -15,7 +15,6 @@ use Rattle.commissioning.specs.Taking.{answer}
 use Rattle.commissioning.specs.Runs.{standing_after, requests}
 use Rattle.commission_run.specs.declared.stop.Stop.{Stop}
 use Rattle.commission_run.specs.declared.stop.Stop.TheVariants.{WriteFailed, Refused}
-use Rattle.commission_run.specs.declared.stop.Refusal.{Refusal}
 use Rattle.commission_run.specs.declared.stop.Refusal.TheVariants as by
 use Rattle.commission_run.specs.Lines.{passed_text, AppendsFront}
 use Rattle.commission_run.specs.Course.{AreFirst, answered, EachAwaits}

@@ -1,5 +1,5 @@
 -- A commissioning over a link while requests are asked. No promise to a caller names this.
-use Rattle.std.specs.Prelude.{◌≡◌, ℕ, List, [], ◌∷◌, ◌++◌, map, Ok}
+use Rattle.std.specs.Prelude.{◌≡◌, ℕ, List, [], ◌++◌, map, Ok}
 use Rattle.std.specs.List.{AllByRecursion}
 use Rattle.world_traits.specs.Links.{Bytes, Link, received_bytes}
 use Rattle.mbap_frames.specs.declared.frame.Frame.{Frame}

@@ -42,12 +42,12 @@ pub safe_lives : (ended : Ended) (read : List ℕ) (input output : Change) → I
 safe_lives ends.Done read input output row is = (row.gained.0, tells read row.gained.0 None row.gained.1, row.gained.2, row.gained.3)
 safe_lives (ends.BookFull calls) read input output row is = (row.gained.0, tells read row.gained.0 (Some calls) row.gained.1, row.gained.2, row.gained.3)
 safe_lives ends.BadWords read input output row is = absurd row
-safe_lives (ends.BadLine line kind) read input output row is = elim is [ | inl done ↦ absurd cc | inr full ↦ let same = full.1 in absurd cc ]
-safe_lives (ends.BadSite fault) read input output row is = elim is [ | inl done ↦ absurd cc | inr full ↦ let same = full.1 in absurd cc ]
-safe_lives ends.ReadFault read input output row is = elim is [ | inl done ↦ absurd cc | inr full ↦ let same = full.1 in absurd cc ]
-safe_lives ends.WriteFault read input output row is = elim is [ | inl done ↦ absurd cc | inr full ↦ let same = full.1 in absurd cc ]
-safe_lives ends.NoMemory read input output row is = elim is [ | inl done ↦ absurd cc | inr full ↦ let same = full.1 in absurd cc ]
-safe_lives (ends.TooLong limit) read input output row is = elim is [ | inl done ↦ absurd cc | inr full ↦ let same = full.1 in absurd cc ]
+safe_lives (ends.BadLine line kind) read input output row is = elim is [ inl done ↦ absurd cc | inr full ↦ let same = full.1 in absurd cc ]
+safe_lives (ends.BadSite fault) read input output row is = elim is [ inl done ↦ absurd cc | inr full ↦ let same = full.1 in absurd cc ]
+safe_lives ends.ReadFault read input output row is = elim is [ inl done ↦ absurd cc | inr full ↦ let same = full.1 in absurd cc ]
+safe_lives ends.WriteFault read input output row is = elim is [ inl done ↦ absurd cc | inr full ↦ let same = full.1 in absurd cc ]
+safe_lives ends.NoMemory read input output row is = elim is [ inl done ↦ absurd cc | inr full ↦ let same = full.1 in absurd cc ]
+safe_lives (ends.TooLong limit) read input output row is = elim is [ inl done ↦ absurd cc | inr full ↦ let same = full.1 in absurd cc ]
 safe_lives (ends.Refused fault) read input output row is = absurd row
 
 -- ---- causes, and what the output gained
@@ -198,11 +198,13 @@ where_refused stands one ends.NoMemory output bytes says fault is not_memory = i
 where_refused stands one (ends.BadLine line kind) output bytes says fault is not_memory = elim (one bytes (faults.BadLine line kind) fault says is) [
   | inl none ↦ absurd cc
   | inr (inl none) ↦ absurd (not_memory none)
-  | inr (inr same) ↦ inl (ap fault_end same) ]
+  | inr (inr same) ↦ inl (ap fault_end same)
+]
 where_refused stands one (ends.BadSite found) output bytes says fault is not_memory = elim (one bytes (faults.BadSite says.0) fault says.1 is) [
   | inl none ↦ absurd cc
   | inr (inl none) ↦ absurd (not_memory none)
-  | inr (inr same) ↦ inl (sym says.2 ∙ ap fault_end same) ]
+  | inr (inr same) ↦ inl (sym says.2 ∙ ap fault_end same)
+]
 where_refused stands one ends.ReadFault output bytes says fault is not_memory = absurd says
 where_refused stands one (ends.TooLong limit) output bytes says fault is not_memory = absurd says
 where_refused stands one ends.BadWords output bytes says fault is not_memory = absurd says
@@ -218,5 +220,6 @@ pub refused_site : NotRefused → OneFault → (ended : Ended) (read : List ℕ)
 refused_site stands one ended read input output row =
     told ended read input output _ row (λ bytes said within fault is works.
     elim (where_refused stands one ended output bytes (said works within) (faults.BadSite is.0) is.1 (λ no. absurd cc)) [
-    | inl same ↦ inl (same ∙ is.2)
-    | inr none ↦ inr none ])
+      | inl same ↦ inl (same ∙ is.2)
+      | inr none ↦ inr none
+    ])

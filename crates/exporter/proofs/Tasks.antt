@@ -23,7 +23,7 @@ use Rattle.exporter.specs.declared.words.Task.{Task}
 use Rattle.exporter.specs.declared.words.Task.TheVariants as tasks
 use Rattle.exporter.specs.Streams.{Change, Fails, GainsNothing}
 use Rattle.exporter.specs.Ends.{status_of}
-use Rattle.exporter.specs.Site.{site_limit, FindsNoSite}
+use Rattle.exporter.specs.Site.{site_limit, FindsNoSite, ReadsSite}
 use Rattle.exporter.specs.Dialing.{Dialing, DialsNothing, FaultsAt, FailsToDial, FailsToReceive, HasBadFrame, HeardLast, MakesLink}
 use Rattle.exporter.specs.Finding.{FindsInverter, FindsNoInverter, IsJob, no_site, no_inverter}
 use Rattle.exporter.specs.Commission as commission
@@ -417,5 +417,92 @@ lacking not_both one may_give task read site output dialing ended end =
       | inr more ↦ elim more [
         | inl b ↦ found_not_lacking one (inverter_of task) b.0 ended read site b.2
         | inr s ↦ found_not_lacking one (inverter_of task) s.0 ended read site s.1
+      ]
+    ]
+
+abbrev OneFault : Type 0
+OneFault = (bytes : List ℕ) (f g : SiteFault) → IsRefused bytes f → IsRefused bytes g → f ≡ g
+
+refused_of : NotBoth → OneFault → (ended : Ended) (read : List ℕ) (site : Change) → FindsNoSite ended read site
+    → IfSome site.old (λ bytes. length bytes ≤ site_limit → (fault : SiteFault) → IsRefused bytes fault → (Fails site → ⊥)
+    → (ended ≡ ends.BadSite fault) ⊎ (ended ≡ ends.NoMemory))
+refused_of not_both one (ends.BadSite found) read site row =
+    if_some_more site.old (λ bytes. IsRefused bytes found) _ (λ bytes refused short fault is no_fault. inl (ap ends.BadSite (one bytes found fault refused is)))
+    (told_whole site.old site.new read (λ bytes. IsRefused bytes found) row.1.bytes row.1.at_end row.0)
+refused_of not_both one (ends.BookFull _) read site row = elim row [ ]
+refused_of not_both one ends.ReadFault read site row = if_some_all site.old _ (λ bytes short fault is no_fault. absurd (no_fault row.0))
+refused_of not_both one ends.NoMemory read site row = if_some_all site.old _ (λ bytes short fault is no_fault. inr refl)
+refused_of not_both one (ends.TooLong limit) read site row =
+    if_some_more site.old (λ bytes. length read ≤ length bytes) _ (λ bytes front short fault is no_fault. absurd (omega (arith, front, short, row.1.beyond)))
+    (told_front site.old site.new read row.1.bytes)
+refused_of not_both one ends.Done read site row = absurd row
+refused_of not_both one ends.BadWords read site row = absurd row
+refused_of not_both one ends.WriteFault read site row = absurd row
+refused_of not_both one (ends.BadLine line kind) read site row = absurd row
+refused_of not_both one (ends.Refused fault) read site row = absurd row
+
+-- a site file that was read has no fault
+read_not_refused : NotBoth → (file : SiteFileRecord) (ended : Ended) (read : List ℕ) (site : Change) → ReadsSite file read site
+    → IfSome site.old (λ bytes. length bytes ≤ site_limit → (fault : SiteFault) → IsRefused bytes fault → (Fails site → ⊥)
+    → (ended ≡ ends.BadSite fault) ⊎ (ended ≡ ends.NoMemory))
+read_not_refused not_both file ended read site reads =
+    if_some_more site.old (λ bytes. IsSiteFile bytes file) _ (λ bytes is short fault refused no_fault. absurd (not_both bytes file fault is refused))
+    (told_whole site.old site.new read (λ bytes. IsSiteFile bytes file) reads.whole.bytes reads.whole.at_end reads.is_file)
+
+refused_by : NotBoth → OneFault → (number : ℕ) (ended : Ended) (read : List ℕ) (site : Change) → FindsNoInverter number read site ended
+    → IfSome site.old (λ bytes. length bytes ≤ site_limit → (fault : SiteFault) → IsRefused bytes fault → (Fails site → ⊥)
+    → (ended ≡ ends.BadSite fault) ⊎ (ended ≡ ends.NoMemory))
+refused_by not_both one number ended read site (no_site row) = refused_of not_both one ended read site row
+refused_by not_both one number ended read site (no_inverter file reads lacks e) = read_not_refused not_both file ended read site reads
+
+pub refused : NotBoth → OneFault → (may_give : ℕ → Bool) (task : Task) (read : List ℕ) (site output : Change) (dialing : Dialing) (ended : Ended)
+    → IsTaskEnd may_give task read site output dialing ended
+    → IfSome site.old (λ bytes. length bytes ≤ site_limit → (fault : SiteFault) → IsRefused bytes fault → (Fails site → ⊥)
+    → (ended ≡ ends.BadSite fault) ⊎ (ended ≡ ends.NoMemory))
+refused not_both one may_give task read site output dialing ended end =
+    elim (cases may_give task read site output dialing ended end) [
+      | inl none ↦ refused_by not_both one (inverter_of task) ended read site none.0
+      | inr more ↦ elim more [
+        | inl b ↦ read_not_refused not_both b.2.file ended read site b.2.reads
+        | inr s ↦ read_not_refused not_both s.1.file ended read site s.1.reads
+      ]
+    ]
+
+-- a site file that was read isn't too long
+read_not_beyond : (file : SiteFileRecord) (ended : Ended) (read : List ℕ) (site : Change) → ReadsSite file read site
+    → IfSome site.old (λ bytes. site_limit < length bytes → (Fails site → ⊥) → (ended ≡ ends.TooLong site_limit) ⊎ (ended ≡ ends.NoMemory))
+read_not_beyond file ended read site reads =
+    if_some_more site.old (λ bytes. length bytes ≤ site_limit) _ (λ bytes short long no_fault. absurd (omega (arith, short, long)))
+    (told_whole site.old site.new read (λ bytes. length bytes ≤ site_limit) reads.whole.bytes reads.whole.at_end reads.whole.within)
+
+beyond_of : (ended : Ended) (read : List ℕ) (site : Change) → FindsNoSite ended read site
+    → IfSome site.old (λ bytes. site_limit < length bytes → (Fails site → ⊥) → (ended ≡ ends.TooLong site_limit) ⊎ (ended ≡ ends.NoMemory))
+beyond_of (ends.BadSite found) read site row =
+    if_some_more site.old (λ bytes. length bytes ≤ site_limit) _ (λ bytes short long no_fault. absurd (omega (arith, short, long)))
+    (told_whole site.old site.new read (λ bytes. length bytes ≤ site_limit) row.1.bytes row.1.at_end row.1.within)
+beyond_of (ends.BookFull _) read site row = elim row [ ]
+beyond_of ends.ReadFault read site row = if_some_all site.old _ (λ bytes long no_fault. absurd (no_fault row.0))
+beyond_of ends.NoMemory read site row = if_some_all site.old _ (λ bytes long no_fault. inr refl)
+beyond_of (ends.TooLong limit) read site row = if_some_all site.old _ (λ bytes long no_fault. inl (ap ends.TooLong row.0))
+beyond_of ends.Done read site row = absurd row
+beyond_of ends.BadWords read site row = absurd row
+beyond_of ends.WriteFault read site row = absurd row
+beyond_of (ends.BadLine line kind) read site row = absurd row
+beyond_of (ends.Refused fault) read site row = absurd row
+
+beyond_by : (number : ℕ) (ended : Ended) (read : List ℕ) (site : Change) → FindsNoInverter number read site ended
+    → IfSome site.old (λ bytes. site_limit < length bytes → (Fails site → ⊥) → (ended ≡ ends.TooLong site_limit) ⊎ (ended ≡ ends.NoMemory))
+beyond_by number ended read site (no_site row) = beyond_of ended read site row
+beyond_by number ended read site (no_inverter file reads lacks e) = read_not_beyond file ended read site reads
+
+pub beyond : (may_give : ℕ → Bool) (task : Task) (read : List ℕ) (site output : Change) (dialing : Dialing) (ended : Ended)
+    → IsTaskEnd may_give task read site output dialing ended
+    → IfSome site.old (λ bytes. site_limit < length bytes → (Fails site → ⊥) → (ended ≡ ends.TooLong site_limit) ⊎ (ended ≡ ends.NoMemory))
+beyond may_give task read site output dialing ended end =
+    elim (cases may_give task read site output dialing ended end) [
+      | inl none ↦ beyond_by (inverter_of task) ended read site none.0
+      | inr more ↦ elim more [
+        | inl b ↦ read_not_beyond b.2.file ended read site b.2.reads
+        | inr s ↦ read_not_beyond s.1.file ended read site s.1.reads
       ]
     ]

@@ -148,13 +148,23 @@ pub fn live<S: Source, C: Source + Send, O: Sink + Send, N: Dialer + Send, K: Cl
         → (FaultsAt (first_dialing N.links N.faults dialers.old.items dialers.new.items) → ⊥)
         → (result ≡ Ended.Done) ⊎ (result ≡ Ended.NoMemory)) }
 
-    // A site file that lacks the inverter is refused.
+    // A site file that lacks the inverter is refused, and so is one with a fault, or one that is too
+    // long.
     ensures lacking { (task : Task) → Ask (map string_bytes words.now.items) task
         → IfSome (S.left site.old) (λ bytes. length bytes ≤ site_limit
         → (file : SiteFileRecord) → IsSiteFile bytes file → inverters file.site ≤ inverter_of task
         → (Rose (S.faults site.old) (S.faults site.new) → ⊥)
         → (result ≡ Ended.Refused (LiveFault.NoSuchInverter (inverters file.site)))
         ⊎ (result ≡ Ended.NoMemory)) }
+    ensures refused { (task : Task) → Ask (map string_bytes words.now.items) task
+        → IfSome (S.left site.old) (λ bytes. length bytes ≤ site_limit
+        → (fault : SiteFault) → IsRefused bytes fault
+        → (Rose (S.faults site.old) (S.faults site.new) → ⊥)
+        → (result ≡ Ended.BadSite fault) ⊎ (result ≡ Ended.NoMemory)) }
+    ensures beyond { (task : Task) → Ask (map string_bytes words.now.items) task
+        → IfSome (S.left site.old) (λ bytes. site_limit < length bytes
+        → (Rose (S.faults site.old) (S.faults site.new) → ⊥)
+        → (result ≡ Ended.TooLong site_limit) ⊎ (result ≡ Ended.NoMemory)) }
 {
     let _ = console;
     one_meaning();

@@ -161,12 +161,14 @@ fn a_script_comes_out_as_the_text_of_its_lives(rt: HostRuntime) -> Result<(), Fa
 
 #[test]
 fn a_read_that_nobody_asked_for_is_seen_by_none(rt: HostRuntime) -> Result<(), Fail> {
-    let text = format!(in rt.alloc(); "{HEAD}{LINKS}ask 0 0 1000 = silent 66700
+    let text = format!(in rt.alloc();
+        "{HEAD}{LINKS}ask 0 0 1000 = silent 66700
 saw 10 0 1 100 = noread
 read 20 0 = readas 1 1
 saw 30 0 1 100 = freed 0 600000
 saw 40 0 1 100 = noread
-")?;
+"
+    )?;
     replays(&rt, rt.alloc(), text.as_str())
 }
 
@@ -188,11 +190,13 @@ inverter 6000 0 -1 100
 inverter 6000 0 -1 100
 begin 0
 ";
-    let wanting = format!(in rt.alloc(); "{head}{LINKS}want 10 0 9000000 = taken
+    let wanting = format!(in rt.alloc();
+        "{head}{LINKS}want 10 0 9000000 = taken
 want 10 1 2000000 = taken
 ask 66701 0 1000 = granted 1 1
 ask 66701 1 334 = notallowed 333
-")?;
+"
+    )?;
     replays(&rt, rt.alloc(), wanting.as_str())?;
     let even = format!(in rt.alloc(); "{head}{LINKS}ask 66701 0 834 = notallowed 833\n")?;
     replays(&rt, rt.alloc(), even.as_str())
@@ -217,9 +221,11 @@ begin 0
     many.push_str("begin 0\n")?;
     let fault = SiteFault::TooManyInverters(65);
     ends(&rt, rt.alloc(), many.as_str(), Ended::BadSite(fault), "")?;
-    let least = format!(in rt.alloc(); "site 1200000 1000 4000 60 20 500 open 1000
+    let least = format!(in rt.alloc();
+        "site 1200000 1000 4000 60 20 500 open 1000
 {head}{LINKS}ask 66701 0 101 = nowatts 0
-")?;
+"
+    )?;
     replays(&rt, rt.alloc(), least.as_str())
 }
 
@@ -230,11 +236,13 @@ inverter 6000 0 -1 100
 begin 0
 ";
     let site = "site 10000000 1000 4000 60 20 500 open";
-    let ticks = format!(in rt.alloc(); "{site} 3
+    let ticks = format!(in rt.alloc();
+        "{site} 3
 {head}tick 0 = total 1200000
 tick 0 = total 1200000
 tick 0 = total 1200000
-")?;
+"
+    )?;
     let mut script = asked(rt.alloc(), ticks.as_str())?;
     script.push_str("tick 0\n")?;
     let full = |calls| Ended::BookFull { calls };

@@ -12,8 +12,8 @@ use Rattle.world_traits.specs.Links.{Link, Links, Receipt, all_links, link_with_
 use Rattle.mbap_frames.specs.Frame.{IsFrame, frame_spelling}
 use Rattle.inverter_sim.specs.Bank.{BankRecord}
 use Rattle.inverter_server.specs.Answers.{Answered, AreAnswers, asked_bytes, answer_bytes, bank_after_all}
-use Rattle.inverter_server.specs.Serving.{Ending, Open, Closed, Lost, Refused, Unsent, Visit, Dial, Missed, Made, AllGoOn, GoesOn, HasReceipts, IsOver, IsSent, IsServed, IsVisit, RoseBy, StandsBehind, answers_of, failures_of, failures_on, links_of, turns_of, visit_of, visits_of}
-use Rattle.inverter_server.specs.Turns.{State, Start, IsAttended, CameTo, GoesOnAttended, EndsAttended, Attends, HasServed, IsUp, Stands, after_receive, all_links_with, up_links}
+use Rattle.inverter_server.specs.Serving.{Ending, Open, Closed, Lost, Refused, Unsent, Visit, Dial, Missed, Made, AllGoOn, GoesOn, HasReceipts, IsOver, IsSent, IsServed, IsVisit, MayDial, RoseBy, StandsBehind, answers_of, failures_of, failures_on, links_of, turns_of, up_behind, up_of, visit_of, visits_of}
+use Rattle.inverter_server.specs.Turns.{State, Start, IsAttended, CameTo, GoesOnAttended, EndsAttended, Attends, HasServed, IsUp, Stands, after_receive, all_links_with, link_up, link_up_behind, up_links}
 use Rattle.inverter_server.proofs.Answering.{all-append, AreAnswers-append, bank_after_all-append, asked_bytes-append, answer_bytes-append}
 use Rattle.inverter_server.proofs.Visits.{both_steps}
 
@@ -191,6 +191,27 @@ over_came done visit next links.Closed sent is none (Some before) = ap Some (pas
 over_came done visit next links.Failed sent is none (Some before) =
     ap Some (past_link done visit next _ before (is ∙ no_more_bytes (link_with_receipt links.Failed visit.link) sent (none refl)))
 
+-- which link is up behind one more
+up_behind-push : (before : Option Link) (visits : List Visit) (visit : Visit) → up_behind before (visits ++ visit ∷ []) ≡ up_of visit.ending visit.link
+up_behind-push before [] visit = refl
+up_behind-push before (first ∷ later) visit = up_behind-push (up_of first.ending first.link) later visit
+
+link_up_behind-push : (done : List Dial) (next : Visit) (links : Links) → link_up_behind (done ++ Made next ∷ []) links ≡ up_of next.ending next.link
+link_up_behind-push done next links =
+    ap (λ (v : List Visit). up_behind links.current v) (visits_of_push done next) ∙ up_behind-push links.current (visits_of done) next
+
+ended_up : (ending : Ending) (link : Link) → MayDial ending → up_of ending link ≡ None
+ended_up Open link may = absurd may
+ended_up Closed link may = refl
+ended_up Lost link may = refl
+ended_up Refused link may = refl
+ended_up Unsent link may = refl
+
+none_up : (done : List Dial) (next : Visit) (before : Links → Links) → MayDial next.ending → (told : Option Links)
+    → option_map link_up (option_map (λ (l : Links). after_hang_up (before l)) told) ≡ option_map (link_up_behind (done ++ Made next ∷ [])) told
+none_up done next before may None = refl
+none_up done next before may (Some links) = ap Some (sym (link_up_behind-push done next links ∙ ended_up next.ending next.link may))
+
 -- a turn behind which the link is over
 pub ended : (start : Start) (turns : ℕ) (old new : State) (kept : List ℕ) → Stands start turns old (Some kept) → EndsAttended start.may_give kept old new after_hang_up
     → Stands start (turns + 1) new None
@@ -227,6 +248,10 @@ ended start turns old new kept stands turn =
           ∙ ap (λ (o : Option Links). option_map (λ (l : Links). after_hang_up (with_bytes sent (after_receive came l))) o) stands.5
           ∙ both_steps (up_links done visit.link) (λ (l : Links). after_hang_up (with_bytes sent (after_receive came l))) start.state.links)
           ∙ over_came done visit next came sent refl turn.6.unsent start.state.links,
+      ap (λ (o : Option Links). option_map link_up o) (turn.6.links
+          ∙ ap (λ (o : Option Links). option_map (λ (l : Links). after_hang_up (with_bytes sent (after_receive came l))) o) stands.5
+          ∙ both_steps (up_links done visit.link) (λ (l : Links). after_hang_up (with_bytes sent (after_receive came l))) start.state.links)
+          ∙ none_up done next (λ (l : Links). with_bytes sent (after_receive came (up_links done visit.link l))) turn.5 start.state.links,
     )
 
 attended_so : (start : Start) (turns : ℕ) (old new : State) (kept : List ℕ) (after : Option (List ℕ)) → Stands start turns old (Some kept)
@@ -267,6 +292,8 @@ missed start turns old new line down stands_so bank recorded rose =
       omega (arith, stands.2, turns_are),
       ap (λ (o : Option Links). option_map all_links o) recorded ∙ both_steps (λ (l : Links). l) all_links old.links ∙ stands.3
           ∙ ap (λ (v : List Visit). option_map (λ (l : Links). all_links l ++ map (λ x. x.link) v) start.state.links) (sym same),
+      ap (λ (o : Option Links). option_map link_up o) recorded ∙ both_steps (λ (l : Links). l) link_up old.links ∙ stands.4
+          ∙ ap (λ (v : List Visit). option_map (λ (l : Links). up_behind l.current v) start.state.links) (sym same),
     )
 
 -- a dial that made a link
@@ -317,6 +344,11 @@ all_told : (done : List Dial) (visit : Visit) (told : Option Links)
 all_told done visit None = refl
 all_told done visit (Some before) = ap Some (past_link done visit visit visit.link before refl)
 
+one_up : (done : List Dial) (visit : Visit) → visit.ending ≡ Open → (told : Option Links)
+    → option_map (λ (l : Links). link_up (up_links done visit.link l)) told ≡ option_map (link_up_behind (done ++ Made visit ∷ [])) told
+one_up done visit is None = refl
+one_up done visit is (Some links) = ap Some (sym (link_up_behind-push done visit links ∙ ap (λ (e : Ending). up_of e visit.link) is))
+
 -- what was served when the last turn is over
 pub served : (start : Start) (made_so turns : ℕ) (now : State) (line : Option (List ℕ)) → made_so ≡ turns → Stands start made_so now line
     → (dials : List Dial) × IsServed start.may_give start.state.bank start.port turns dials start.state.links now.links start.state.faults now.faults
@@ -333,6 +365,7 @@ served start made_so turns now None all stands =
         answers = subst (AreAnswers start.state.bank) nil so_far.replies;
         moments = subst (AllByRecursion (λ (a : Answered). IsTrue (start.may_give a.at))) nil so_far.moments;
         told = stands.3;
+        up = stands.4;
       },
     )
 served start made_so turns now (Some kept) all stands =
@@ -364,5 +397,7 @@ served start made_so turns now (Some kept) all stands =
         moments = subst (AllByRecursion (λ (a : Answered). IsTrue (start.may_give a.at))) (sym answers) so_far.moments;
         told = ap (λ (o : Option Links). option_map all_links o) stands.5 ∙ both_steps (up_links done visit.link) all_links start.state.links
             ∙ all_told done visit start.state.links;
+        up = ap (λ (o : Option Links). option_map link_up o) stands.5 ∙ both_steps (up_links done visit.link) link_up start.state.links
+            ∙ one_up done visit up.ending start.state.links;
       },
     )

@@ -1,5 +1,5 @@
 -- What was done to serve an inverter: the dials, and on each link the frames that were answered. It reads the record of the links.
-use Rattle.std.specs.Prelude.{◌≡◌, ℕ, ◌+◌, ◌-◌, ◌^◌, ◌<◌, ◌≤◌, ◌⊎◌, Bool, IsTrue, List, [], ◌∷◌, ◌++◌, length, map, min, sum_by, take, Option}
+use Rattle.std.specs.Prelude.{◌≡◌, ℕ, ◌+◌, ◌-◌, ◌^◌, ◌<◌, ◌≤◌, ◌⊎◌, Bool, IsTrue, List, [], ◌∷◌, ◌++◌, length, map, min, sum_by, take, Option, Some, None}
 use Rattle.std.specs.List.{AllByRecursion, flat_map}
 use Rattle.std.specs.Option.{option_map}
 use Rattle.world_traits.specs.Links as links
@@ -103,6 +103,11 @@ abbrev pub failures_of : Dial → ℕ
 failures_of Missed = 1
 failures_of (Made visit) = failures_on visit.ending
 
+-- a link that has come to its end is hung up, or a receive that failed has ended it
+abbrev pub up_of : Ending → Link → Option Link
+up_of Open link = Some link
+up_of _ link = None
+
 -- the links that were made, with what was answered on them
 abbrev pub visit_of : Dial → List Visit
 visit_of Missed = []
@@ -113,6 +118,11 @@ visits_of dials = flat_map visit_of dials
 
 abbrev pub links_of : List Dial → List Link
 links_of dials = map (λ visit. visit.link) (visits_of dials)
+
+-- the link that is up behind these, where this one was up before
+abbrev pub up_behind : Option Link → List Visit → Option Link
+up_behind before [] = before
+up_behind before (visit ∷ later) = up_behind (up_of visit.ending visit.link) later
 
 -- all answers, in order
 abbrev pub answers_of : List Dial → List Answered
@@ -134,5 +144,6 @@ pub record IsServed (may_give : ℕ → Bool) (bank : BankRecord) (port : PortRe
   -- the answers are those of the bank, at readings of the clock that never fall
   pub answers : AreAnswers bank (answers_of dials)
   pub moments : AllByRecursion (λ answered. IsTrue (may_give answered.at)) (answers_of dials)
-  -- where the dialer tells the record, its new links are these
+  -- where the dialer tells the record, its new links are these, and one is up exactly where it hasn't come to its end
   pub told : option_map all_links new ≡ option_map (λ links. all_links links ++ links_of dials) old
+  pub up : option_map (λ links. links.current) new ≡ option_map (λ links. up_behind links.current (visits_of dials)) old

@@ -13,7 +13,7 @@ use Rattle.inverter_sim.specs.Bank.{BankRecord}
 use Rattle.inverter_server.specs.declared.piece.Course.{Course}
 use Rattle.inverter_server.specs.declared.piece.Course.TheVariants as course
 use Rattle.inverter_server.specs.Answers.{Answered, IsAnsweredBy, IsHungUpOn, AreAnswers, asked_bytes, answer_bytes, bank_after_all}
-use Rattle.inverter_server.specs.Serving.{Dial, Ending, Open, Closed, Lost, Refused, Unsent, Visit, AllGoOn, GoesOn, IsOver, IsSent, IsVisit, MayDial, RoseBy, StandsBehind, answers_of, failures_of, failures_on, links_of, turns_of, visits_of}
+use Rattle.inverter_server.specs.Serving.{Dial, Ending, Open, Closed, Lost, Refused, Unsent, Visit, AllGoOn, GoesOn, IsOver, IsSent, IsVisit, MayDial, RoseBy, StandsBehind, answers_of, failures_of, failures_on, links_of, turns_of, up_behind, visits_of}
 
 -- the bank, the clock, and the greatest of its readings so far, or 0 before the first
 pub record DeviceState (K : Type 0) : Type 0 where
@@ -157,12 +157,20 @@ all_links_with done links = all_links links ++ links_of done
 abbrev pub up_links : List Dial → Link → Links → Links
 up_links done link links = record { past = all_links_with done links; current = Some link }
 
+-- the link that is up
+abbrev pub link_up : Links → Option Link
+link_up links = links.current
+
+abbrev pub link_up_behind : List Dial → Links → Option Link
+link_up_behind done links = up_behind links.current (visits_of done)
+
 -- what stands after so many turns, by what is kept of the stream where a link is up
 abbrev pub Stands : Start → (turns : ℕ) → State → Option (List ℕ) → Type 0
 Stands start turns now None =
     (done : List Dial) × HasServed start now done []
     × (sum_by turns_of done ≡ turns)
     × (option_map all_links now.links ≡ option_map (all_links_with done) start.state.links)
+    × (option_map link_up now.links ≡ option_map (link_up_behind done) start.state.links)
 Stands start turns now (Some kept) =
     (done : List Dial) × (visit : Visit) × HasServed start now done visit.answers × IsUp start kept visit
     × (sum_by turns_of done + (1 + length visit.link.receipts) ≡ turns)

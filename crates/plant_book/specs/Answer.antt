@@ -97,15 +97,17 @@ reply_to_back book now inverter link number =
     if list_any (is_numbered inverter link number) (live book.site.rules book.entries now inverter)
     then replies.Taken else replies.NoWrite
 
--- the ceiling right after a cap is set: the site's cap through the silence, else the greater of the new cap and
--- what is reserved
+-- the ceiling right after a cap is set: the site's cap through the silence, else the greater of the new cap
+-- and what is reserved
 abbrev pub ceiling_with : BookRecord → ℕ → ℕ → ℕ
-ceiling_with book now mw = if nat_le now (silent_until book) then book.site.cap else max mw (total_at book now)
+ceiling_with book now mw = if nat_le now (silent_until book) then book.site.cap
+    else max mw (total_at book now)
 
 -- the reply to a Cap: whether the floors fit under it, and the site's cap is no lower
 unfoldable pub reply_to_cap : BookRecord → ℕ → ℕ → Reply
 reply_to_cap book now mw =
-    if nat_lt mw (floors book.site) || nat_lt book.site.cap mw then replies.CapOut (floors book.site) book.site.cap
+    if nat_lt mw (floors book.site) || nat_lt book.site.cap mw
+    then replies.CapOut (floors book.site) book.site.cap
     else replies.CapSet mw (ceiling_with book now mw)
 
 -- the reply to a call as it is entered

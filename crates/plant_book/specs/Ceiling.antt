@@ -1,5 +1,5 @@
--- The ceiling: what all limits together stay under at the last moment of a book, also right behind a lowering of the
--- cap.
+-- The ceiling: what all limits together stay under at the last moment of a book, also right behind a lowering
+-- of the cap.
 use Rattle.std.specs.Prelude.{ℕ, ◌+◌, nat_le, if◌then◌else◌, max, Option, Some, None}
 use Rattle.limiter_num.specs.Timers.{reach}
 use Rattle.plant_book.specs.declared.book.Entry.{Entry}
@@ -12,14 +12,18 @@ use Rattle.plant_book.specs.Answer.{silent_until}
 
 -- the book up to the entry that set the cap in force
 abbrev pub book_when_set : BookRecord → BookRecord
-book_when_set book = record { site = book.site; start = book.start; entries = through_last sets_cap book.entries }
+book_when_set book = record {
+  site = book.site;
+  start = book.start;
+  entries = through_last sets_cap book.entries;
+}
 
 -- what was reserved in all right after the cap in force was set
 unfoldable pub total_when_set : BookRecord → ℕ
 total_when_set book = total (book_when_set book)
 
--- Behind the silence: the site's cap where none was set; within reach of the entry that set the cap in force the
--- greater of this cap and what was reserved right after that entry; then the cap in force.
+-- Behind the silence: the site's cap where none was set; within reach of the entry that set the cap in force
+-- the greater of this cap and what was reserved right after that entry; then the cap in force.
 abbrev pub ceiling_since : BookRecord → Option Entry → ℕ
 ceiling_since book None = book.site.cap
 ceiling_since book (Some set) = if nat_le (now_of book) (moment set.call + reach book.site.rules)

@@ -1,5 +1,5 @@
--- What is reserved for an inverter covers what it may hold, and after a lowering what is reserved comes back under the
--- cap.
+-- What is reserved for an inverter covers what it may hold, and after a lowering what is reserved comes back
+-- under the cap.
 use Rattle.std.specs.Prelude.{◌≡◌, ℕ, ◌+◌, ◌<◌, ◌≤◌, ◌⊎◌, true, if◌then◌else◌, List, [], IfSome}
 use Rattle.limiter_num.specs.Timers.{reach}
 use Rattle.plant_book.specs.declared.call.Reply.TheVariants as replies
@@ -16,8 +16,8 @@ use Rattle.plant_book.specs.Behaviour.{Timed, IsBehaviour}
 use Rattle.plant_book.specs.Held.{IsCut}
 use Rattle.plant_book.specs.Safe.{held_mw}
 
--- whatever an inverter did that follows the timed device: at each cut from the last moment on it holds no more than is
--- reserved for it
+-- whatever an inverter did that follows the timed device: at each cut from the last moment on it holds no more
+-- than is reserved for it
 abbrev pub HoldsWithin : History → Type 0
 HoldsWithin history = (inverter : ℕ) (events first rest : List Timed) (at : ℕ)
     → IsBehaviour history inverter events → now_of history.life ≤ at → IsCut events at first rest
@@ -27,8 +27,8 @@ HoldsWithin history = (inverter : ℕ) (events first rest : List Timed) (at : �
 abbrev pub IsOneLife : History → Type 0
 IsOneLife history = (history.past ≡ []) × (history.earlier ≡ [])
 
--- What is held in a history that ends with this book is covered by what is reserved: behind the silence of the last
--- life, or where there was no life and no write before it.
+-- What is held in a history that ends with this book is covered by what is reserved: behind the silence of the
+-- last life, or where there was no life and no write before it.
 abbrev pub CoversHeld : BookRecord → Type 0
 CoversHeld book = (history : History) → IsHistory history → history.life ≡ book
     → (silent_until book < now_of book) ⊎ IsOneLife history → HoldsWithin history

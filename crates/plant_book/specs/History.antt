@@ -1,6 +1,5 @@
--- What was granted and seen over the lives of a plant. A restart ends a life: its book is closed, and an
--- empty one
--- begins, while what was sent in it may still act.
+-- What was granted and seen over the lives of a plant. A restart ends a life: its book is closed, and an empty
+-- one begins, at the site's cap, while what was sent in it may still act.
 use Rattle.std.specs.Prelude.{◌≡◌, ℕ, ◌+◌, ◌≤◌, Bool, false, not, ◌&&◌, ◌||◌, ◌==◌, nat_lt, if◌then◌else◌, List, [], ◌∷◌, ◌++◌, map, filter, Option, Some, None}
 use Rattle.std.specs.List.{AllByRecursion, list_any}
 use Rattle.plant_book.specs.declared.call.Call.{Call}
@@ -120,7 +119,7 @@ abbrev pub first_start : List BookRecord → ℕ → ℕ
 first_start [] otherwise = otherwise
 first_start (book ∷ books) otherwise = book.start
 
--- the past fits: its writes and the floors, the greatest of each inverter, sum to at most the cap
+-- the past fits: its writes and the floors, the greatest of each inverter, sum to at most the site's cap
 abbrev pub Fits : SiteRecord → List writes.Write → Type 0
 Fits site past = sum_below (inverters site) (λ inverter. covering site inverter (filter
     (λ write. write.inverter == inverter) past)) ≤ site.cap

@@ -73,17 +73,22 @@ policy_target book inverter = target_of book.site.policy (level_of (cap_of book)
 
 -- what an inverter's fall share goes by: neither wishes nor strangeness count
 abbrev pub fall_claim : SiteRecord → ℕ → Claim
-fall_claim site inverter = record { floor = floor_at site inverter; wish = rated_at site inverter; rated = rated_at site inverter }
+fall_claim site inverter = record {
+  floor = floor_at site inverter;
+  wish = rated_at site inverter;
+  rated = rated_at site inverter;
+}
 
 unfoldable pub fall_claims : SiteRecord → List Claim
 fall_claims site = map (fall_claim site) (range_with_len 0 (inverters site))
 
 -- The fall share of an inverter under a cap: its fair share if every inverter wished for its rating.
 unfoldable pub fall_share : SiteRecord → ℕ → ℕ → ℕ
-fall_share site cap inverter = target_of policies.Fair (level_of cap (fall_claims site)) (fall_claim site inverter)
+fall_share site cap inverter = target_of policies.Fair (level_of cap (fall_claims site))
+    (fall_claim site inverter)
 
--- The greatest limit in milliwatts that the inverter may ask for at a moment: the policy's, and no more than its
--- fall share while more is reserved than the cap in force.
+-- The greatest limit in milliwatts that the inverter may ask for at a moment: the policy's, and no more than
+-- its fall share while more is reserved than the cap in force.
 unfoldable pub target_at : BookRecord → ℕ → ℕ → ℕ
 target_at book now inverter = if nat_lt (cap_of book) (total_at book now)
     then min (policy_target book inverter) (fall_share book.site (cap_of book) inverter)

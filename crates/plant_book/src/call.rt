@@ -236,8 +236,8 @@ pub enum Reply {
     Strange(u16),
     /// There is no live write of these numbers.
     NoWrite,
-    /// The cap is set, in mW; until all writes from before are past, all limits together stay under the ceiling.
+    /// The cap is set, in mW. All limits together stay under the ceiling while writes from before may act.
     CapSet { cap: u64, ceiling: u64 },
-    /// The cap would be below the floors of all inverters, the least, or above the site's, the most; it stays.
+    /// The cap stays: the one wanted is below the floors of all inverters, or above the site's cap.
     CapOut { least: u64, most: u64 },
 }

@@ -60,15 +60,15 @@ pub fn no_write_could_go_sooner()
     ensures { (book : BookRecord) → IsBook book → IsTight book }
 {}
 
-/// The claims of the inverters of a plant are feasible under the cap in force, whatever they wish for and whether
-/// they are strange or not, and so are those that the fall shares go by.
+/// The claims of the inverters of a plant are feasible under the cap in force, whatever they wish for and
+/// whether they are strange or not, and so are those that the fall shares go by.
 pub fn claims_are_feasible()
     ensures claims { (book : BookRecord) → IsBook book → IsFeasible (cap_of book) (claims book) }
     ensures falls { (book : BookRecord) → IsBook book → IsFeasible (cap_of book) (fall_claims book.site) }
 {}
 
-/// The cap in force is never below the floors nor above the site's cap. Only a Cap answered CapSet changes it, and the
-/// reply tells the cap and the ceiling of the book with that entry.
+/// The cap in force is never below the floors nor above the site's cap. Only a Cap answered CapSet changes it,
+/// and the reply tells the cap and the ceiling of the book with that entry.
 pub fn caps_are_told()
     ensures within { (book : BookRecord) → IsBook book
         → (floors book.site ≤ cap_of book) × (cap_of book ≤ book.site.cap) }
@@ -78,14 +78,14 @@ pub fn caps_are_told()
         → TellsCap book entry (with_entries book (book.entries ++ entry ∷ [])) }
 {}
 
-/// What an inverter may hold is reserved for it: behind the silence of the last life, or in the first life of a plant
-/// that began at its floors.
+/// What an inverter may hold is reserved for it: behind the silence of the last life, or in the first life of a
+/// plant that began at its floors.
 pub fn what_is_held_is_reserved()
     ensures { (book : BookRecord) → CoversHeld book }
 {}
 
-/// What is reserved in all is at most the ceiling, and past reach of the last Cap answered CapSet at most the cap in
-/// force.
+/// What is reserved in all is at most the ceiling, and past reach of the last Cap answered CapSet at most the
+/// cap in force.
 pub fn totals_come_back_under_the_cap()
     ensures ceiling { (book : BookRecord) → IsBook book → IsUnderCeiling book }
     ensures back { (book : BookRecord) → IsBook book → IsBackUnderCap book }

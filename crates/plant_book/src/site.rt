@@ -57,7 +57,7 @@ impl Unit {
 /// A plant behind one grid connection. It is always as `new` makes it.
 #[derive(Clone, Debug, Drop)]
 pub struct Site {
-    /// What all limits together stay under, in mW.
+    /// The greatest cap, in mW, and the one in force at the start of each life.
     pub cap: u64,
     /// What is taken for granted of links and timers.
     pub rules: Rules,

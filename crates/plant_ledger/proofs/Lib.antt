@@ -1,2 +1,6 @@
+pub mod Accounts
+pub mod Fitting
+pub mod Following
 pub mod Kept
+pub mod Sights
 pub mod Lives

@@ -1,3 +1,5 @@
+pub mod Account
+pub mod Ledger
 pub mod Opening
 pub mod Release
 pub mod Plant

@@ -26,14 +26,18 @@ pub record IsKept (book : PartRecord) : Type 0 where
 abbrev pub entry_of : PartRecord → Call → Reply → Entry
 entry_of book call reply = record { call = parts.entered (begin_of book) book.entries call; reply = reply }
 
--- the book with this call entered behind it
-abbrev pub entered : PartRecord → Call → Reply → PartRecord
-entered book call reply = record {
+-- the book with one more entry
+abbrev pub with_one : PartRecord → Entry → PartRecord
+with_one book entry = record {
   site = book.site;
   start = book.start;
   carry = book.carry;
-  entries = book.entries ++ entry_of book call reply ∷ [];
+  entries = book.entries ++ entry ∷ [];
 }
+
+-- the book with this call entered behind it
+abbrev pub entered : PartRecord → Call → Reply → PartRecord
+entered book call reply = with_one book (entry_of book call reply)
 
 -- the reply that a joined book asks for
 abbrev pub right_reply : BookRecord → Call → Reply

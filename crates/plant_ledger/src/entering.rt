@@ -3,23 +3,27 @@ ghost use Rattle.plant_book.specs.Site.{inverters};
 ghost use Rattle.plant_book.specs.Calls.{moment, named};
 ghost use Rattle.plant_book.specs.Answered.{IsInRange};
 ghost use Rattle.plant_book.specs.Carry.{EachBefore};
-ghost use Rattle.plant_ledger.specs.Plant.{IsKept, entered, GoesOn};
+ghost use Rattle.plant_ledger.specs.Ledger.{IsAtLast};
+ghost use Rattle.plant_ledger.specs.Plant.{entered, GoesOn};
 
-use plant_book::{Book, Call, Entry, MOMENT_MAX, Reply, answer};
+use crate::ledger::Ledger;
+use plant_book::{Call, Entry, MOMENT_MAX, Reply};
 
 /// Enters a call into a book that has room for it.
-pub fn enter(book: &mut Book, call: Call) -> Reply
-    requires kept { IsKept book.old }
+pub fn enter(ledger: &mut Ledger, call: Call) -> Reply
+    requires kept { IsAtLast ledger.old }
     requires moment { moment call ≤ MOMENT_MAX }
-    requires of_site { IfSome (named call) (λ inverter. inverter < inverters book.old.site) }
+    requires of_site { IfSome (named call) (λ inverter. inverter < inverters ledger.old.book.site) }
     requires in_range { IsInRange call }
-    requires room { length book.old.entries < book.old.site.room }
-    ensures entered { book.new ≡ entered book.old call result }
-    ensures lives { EachBefore book.old (λ before. GoesOn before book.old call result book.new) }
-    ensures kept { IsKept book.new }
+    requires room { length ledger.old.book.entries < ledger.old.book.site.room }
+    ensures entered { ledger.new.book ≡ entered ledger.old.book call result }
+    ensures lives { EachBefore ledger.old.book
+        (λ before. GoesOn before ledger.old.book call result ledger.new.book) }
+    ensures kept { IsAtLast ledger.new }
 {
-    let call = call.at_moment(call.at().max(book.latest()));
-    let reply = answer(book, &call);
-    book.push(Entry { call, reply });
+    let call = call.at_moment(call.at().max(ledger.now()));
+    ledger.advance(call.at());
+    let reply = ledger.answer(&call);
+    ledger.enter(Entry { call, reply });
     reply
 }

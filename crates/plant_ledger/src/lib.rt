@@ -4,10 +4,15 @@
 //! takes any. A `Ticket` is the right to send one granted write, once.
 #![tactic(auto)]
 
+mod account;
 mod entering;
+mod ledger;
 mod opening;
 mod plant;
+mod replies;
+mod reserved;
 mod rolling;
+mod shares;
 mod ticket;
 
 pub use opening::OpenFault;

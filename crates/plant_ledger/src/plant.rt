@@ -15,17 +15,14 @@ ghost use Rattle.plant_ledger.specs.Release.{back_of};
 ghost use Rattle.plant_ledger.specs.Plant.{IsKept, entered, IsSafeLife, GoesOn, Rolls, IsFullLife};
 
 use crate::entering::enter;
+use crate::ledger::Ledger;
 use crate::opening::{OpenFault, refuse};
-use crate::rolling::{RollFault, next_book};
+use crate::rolling::RollFault;
 use crate::ticket::{Ticket, ticket_with};
 use limiter_num::NoMemory;
-use plant_book::{
-    Book, Call, Carry, Entry, MOMENT_MAX, Reply, Site, Write, cap_plain, ceiling_plain, goal_plain,
-    is_stopped, reserved_plain, total_plain,
-};
+use plant_book::{Book, Call, Carry, Entry, MOMENT_MAX, Reply, Site, Write, ceiling_plain};
 use std::alloc::Global;
 use std::marker::Model;
-use std::mem;
 
 /// The book already has as many calls as its room; nothing was entered.
 #[derive(Clone, Copy, Debug, PartialEq, Eq)]
@@ -54,22 +51,21 @@ pub struct Goal {
     pub stop: bool,
 }
 
-/// The ledger of one plant. It keeps the last book of its life, and computes each reply from the whole of it and
-/// from what the books before left.
+/// The ledger of one plant. It keeps the last book of its life, and beside it what the replies go by.
 #[derive(Debug, Drop)]
 pub struct Plant {
-    book: Book,
+    ledger: Ledger,
 }
 
 impl Model for Plant {
     ghost use Rattle.plant_book.specs.Part.{PartRecord};
-    ghost use Rattle.plant_ledger.specs.Plant.{IsKept};
+    ghost use Rattle.plant_ledger.specs.Ledger.{IsAtLast};
 
     ghost Value = { PartRecord };
 
-    ghost view = { λ p. p.book };
+    ghost view = { λ p. p.ledger.book };
 
-    ghost invariant = { λ p. IsKept p.book };
+    ghost invariant = { λ p. IsAtLast p.ledger };
 }
 
 impl Plant {
@@ -93,11 +89,11 @@ impl Plant {
             ⊎ ((fault ≡ OpenFault.NoMemory) × (open_fault site ≡ None))) }
     {
         refuse(&site)?;
-        let book = match Book::new(alloc, site, start, None) {
-            Ok(book) => book,
+        let ledger = match Ledger::new(alloc, site, start) {
+            Ok(ledger) => ledger,
             Err(NoMemory) => return Err(OpenFault::NoMemory),
         };
-        Ok(Plant { book })
+        Ok(Plant { ledger })
     }
 
     /// Enters a call with the greater of its moment and the last moment, and answers it. A Want wishes for at
@@ -110,8 +106,8 @@ impl Plant {
         ensures entered { IfOk result (λ outcome. self.new ≡ entered self.old call outcome.reply) }
         ensures ticket { IfOk result (λ outcome. outcome.ticket ≡ ticket_for outcome.reply) }
 
-        // Of each life whose last book this is: the reply is the one that the joined book asks for, and the life
-        // goes on.
+        // Of each life whose last book this is: the reply is the one that the joined book asks for, and the
+        // life goes on.
         ensures lives { IfOk result (λ outcome. EachBefore self.old
             (λ before. GoesOn before self.old call outcome.reply self.new)) }
 
@@ -120,9 +116,9 @@ impl Plant {
         ensures full { IfErr result (λ full. (full.calls ≡ length self.old.entries)
             × (full.calls ≡ self.old.site.room) × (self.new ≡ self.old)) }
 
-        // Of each life whose last book is the new one: what is reserved in all stays under the ceiling, the site's
-        // cap through the silence, and within reach of a lowering what was reserved right after it. Past that it is
-        // back under the cap.
+        // Of each life whose last book is the new one: what is reserved in all stays under the ceiling, the
+        // site's cap through the silence, and within reach of a lowering what was reserved right after it.
+        // Past that it is back under the cap.
         ensures kept { IsKept self.new }
         ensures capped { EachBook self.new IsUnderCeiling }
         ensures back { EachBook self.new IsBackUnderCap }
@@ -130,8 +126,8 @@ impl Plant {
         // Behind the silence, and in the first life of a plant, what an inverter may hold is reserved for it.
         ensures covered { EachBook self.new CoversHeld }
 
-        // Whatever past that fits the life followed, and whatever inverters did that follow the timed device. And no
-        // ledger that knows only the calls could free a write sooner.
+        // Whatever past that fits the life followed, and whatever inverters did that follow the timed device.
+        // And no ledger that knows only the calls could free a write sooner.
         ensures safe { EachBook self.new IsSafeLife }
         ensures tight { EachBook self.new IsTight }
     {
@@ -139,7 +135,7 @@ impl Plant {
         if calls >= self.site().room {
             return Err(BookFull { calls });
         }
-        let reply = enter(&mut self.book, call);
+        let reply = enter(&mut self.ledger, call);
         Ok(Outcome {
             reply,
             ticket: ticket_with(&reply),
@@ -147,8 +143,7 @@ impl Plant {
     }
 
     /// Gives back a write that was not sent and never will be: the Back of the ticket's write. A full book
-    /// hands the
-    /// ticket back.
+    /// hands the ticket back.
     pub fn release(&mut self, ticket: Ticket, at: u64) -> Result<Reply, (BookFull, Ticket)>
         requires moment { at ≤ MOMENT_MAX }
         requires of_site { ticket.inverter < inverters self.old.site }
@@ -181,7 +176,7 @@ impl Plant {
             link,
             number,
         };
-        Ok(enter(&mut self.book, back))
+        Ok(enter(&mut self.ledger, back))
     }
 
     /// Ends the book, hands it out, and goes on with an empty one of the same room that begins with what the life
@@ -205,15 +200,14 @@ impl Plant {
         ensures safe { EachBook self.new IsSafeLife }
         ensures tight { EachBook self.new IsTight }
     {
-        let next = next_book(alloc, &self.book)?;
-        Ok(mem::replace(&mut self.book, next))
+        self.ledger.roll(alloc)
     }
 
     /// What the books of the life before this one left, or nothing where it is the first.
     pub fn carry(&self) -> Option<&Carry>
         ensures { MatchOption result (self.now.carry ≡ None) (λ carry. self.now.carry ≡ Some carry.now) }
     {
-        let book = &self.book;
+        let book = self.ledger.book();
         book.carry.as_ref()
     }
 
@@ -225,9 +219,9 @@ impl Plant {
         ensures stop { EachBook self.now (λ whole. result.stop ≡ is_stopped whole) }
     {
         Goal {
-            raw: goal_plain(&self.book, inverter),
+            raw: self.ledger.goal(inverter),
             reserved: self.reserved(inverter),
-            stop: is_stopped(&self.book),
+            stop: self.ledger.is_stopped(),
         }
     }
 
@@ -236,35 +230,35 @@ impl Plant {
         requires { inverter < inverters self.now.site }
         ensures { EachBook self.now (λ whole. result ≡ sums.reserved whole inverter) }
     {
-        reserved_plain(&self.book, inverter)
+        self.ledger.reserved(inverter)
     }
 
     /// What is reserved in all at the last moment, in mW.
     pub fn total(&self) -> u64
         ensures { EachBook self.now (λ whole. result ≡ sums.total whole) }
     {
-        total_plain(&self.book)
+        self.ledger.total()
     }
 
     /// The cap in force, in mW: that of the last Cap answered CapSet, or the site's.
     pub fn cap(&self) -> u64
         ensures { EachBook self.now (λ whole. result ≡ cap_of whole) }
     {
-        cap_plain(&self.book)
+        self.ledger.cap()
     }
 
-    /// What all limits together stay under at the last moment, in mW, also right behind a lowering of the cap.
+    /// What all limits together stay under at the last moment, in mW, also right behind a lowering.
     pub fn ceiling(&self) -> u64
         ensures { EachBook self.now (λ whole. result ≡ ceiling whole) }
     {
-        ceiling_plain(&self.book)
+        ceiling_plain(self.ledger.book())
     }
 
     /// What of the cap in force isn't reserved at the last moment, in mW: 0 where more than it is reserved.
     pub fn unreserved(&self) -> u64
         ensures { EachBook self.now (λ whole. result ≡ sums.unreserved whole) }
     {
-        self.cap().saturating_sub(self.total())
+        self.ledger.unreserved()
     }
 
     /// The last moment of the life: that of its last call, or the start where there is none, in ms.
@@ -273,7 +267,7 @@ impl Plant {
         ensures of_life { EachBook self.now (λ whole. result ≡ sums.now_of whole) }
         ensures kept { IsKept self.now }
     {
-        self.book.latest()
+        self.ledger.now()
     }
 
     /// How many calls were entered in the book.
@@ -282,7 +276,7 @@ impl Plant {
         ensures within { result ≤ self.now.site.room }
         ensures kept { IsKept self.now }
     {
-        let book = &self.book;
+        let book = self.ledger.book();
         book.entries.len() as u32
     }
 
@@ -291,7 +285,7 @@ impl Plant {
         requires { place < length self.now.entries }
         ensures { slice_get self.now.entries place ≡ Some result }
     {
-        let book = &self.book;
+        let book = self.ledger.book();
         book.entries[place as usize]
     }
 
@@ -299,15 +293,24 @@ impl Plant {
     pub fn site(&self) -> &Site
         ensures { result.now ≡ self.now.site }
     {
-        let book = &self.book;
+        let book = self.ledger.book();
         &book.site
+    }
+
+    /// The book, for the plain slow program.
+    #[cfg(test)]
+    pub(crate) fn book(&self) -> &Book
+        ensures book { result.now ≡ self.now }
+        ensures kept { IsKept self.now }
+    {
+        self.ledger.book()
     }
 
     /// The moment at which the life begins, in ms.
     pub fn start(&self) -> u64
         ensures { result ≡ self.now.start }
     {
-        let book = &self.book;
+        let book = self.ledger.book();
         book.start
     }
 }

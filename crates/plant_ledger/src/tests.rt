@@ -373,4 +373,5 @@ fn wishes_share_the_cap(rt: HostRuntime) -> Result<(), Fail> {
 }
 
 mod caps;
+mod plain;
 mod rolls;

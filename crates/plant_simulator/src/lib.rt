@@ -12,3 +12,6 @@ mod replies;
 pub use cut_dialer::{CutDialer, Handing};
 pub use device_dialer::DeviceDialer;
 pub use hearing::Standing;
+
+#[cfg(test)]
+mod tests;

@@ -1,5 +1,5 @@
 //! The list of live writes.
-ghost use Rattle.std.specs.Prelude.{◌≡◌, ◌+◌, ◌*◌, ◌^◌, ◌≤◌, ◌<◌, ◌↔◌, [], ◌∷◌, ◌++◌, Some, List, length, filter, fold, map, max, IsOk, OnOk, OnErr, IfErr};
+ghost use Rattle.std.specs.Prelude.{◌≡◌, ◌+◌, ◌*◌, ◌^◌, ◌≤◌, ◌<◌, ◌↔◌, nat_le, [], ◌∷◌, ◌++◌, Some, List, length, filter, fold, map, max, IsOk, OnOk, OnErr, IfErr};
 ghost use Rattle.std.specs.List.{list_any};
 ghost use Rattle.limiter_num.specs.Rating.{mw};
 ghost use Rattle.plant_book.specs.Writes.{frees};
@@ -86,6 +86,36 @@ impl Live {
         drop_numbered(&mut self.writes, link, number)
     }
 
+    /// What is left of the list where the read showed this raw percentage.
+    pub fn left_by(&self, rules: &Rules, read: &Read, raw: u16) -> Live
+        ensures { result ≡ without (frees rules.now (Some read.now) raw) self.now }
+    {
+        Live {
+            writes: left_by(self.writes.as_slice(), rules, read, raw),
+        }
+    }
+
+    /// How many writes the list has.
+    pub fn len(&self) -> u8
+        ensures { result ≡ length self.now }
+    {
+        self.writes.len() as u8
+    }
+
+    /// Whether the list has 32 writes.
+    pub fn is_full(&self) -> bool
+        ensures { result ≡ nat_le live_max (length self.now) }
+    {
+        self.writes.is_full()
+    }
+
+    /// Whether the list has a write of this link and number.
+    pub fn holds(&self, link: u32, number: u16) -> bool
+        ensures { result ≡ list_any (has_numbers link number) self.now }
+    {
+        holds(self.writes.as_slice(), link, number)
+    }
+
     /// Whether a write of the list has this raw percentage.
     pub fn knows(&self, raw: u16) -> bool
         ensures { result ≡ list_any (has_raw raw) self.now }
@@ -124,12 +154,28 @@ fn drop_numbered(writes: &mut Writes, link: u32, number: u16) -> bool
     ensures left { writes.new.items ≡ without (has_numbers link number) writes.old.items }
     ensures held { result ≡ list_any (has_numbers link number) writes.old.items }
 {
-    let held = writes
-        .as_slice()
-        .iter()
-        .any(|kept| kept.has_numbers(link, number));
+    let held = holds(writes.as_slice(), link, number);
     writes.retain(|kept| !kept.has_numbers(link, number));
     held
+}
+
+fn left_by(writes: &[Kept], rules: &Rules, read: &Read, raw: u16) -> Writes
+    requires { length writes.now ≤ live_max }
+    ensures { result.items ≡ without (frees rules.now (Some read.now) raw) writes.now }
+{
+    let mut left = Writes::new();
+    for write in writes {
+        if !write.is_freed_by(rules, read, raw) {
+            left.push(*write);
+        }
+    }
+    left
+}
+
+fn holds(writes: &[Kept], link: u32, number: u16) -> bool
+    ensures { result ≡ list_any (has_numbers link number) writes.now }
+{
+    writes.iter().any(|kept| kept.has_numbers(link, number))
 }
 
 fn knows(writes: &[Kept], raw: u16) -> bool

@@ -7,8 +7,10 @@ fn sent<T: Send>(_value: &T) {}
 
 fn shared<T: Sync>(_value: &T) {}
 
-fn read<S: Source>(source: &mut S, into: &mut [u8]) -> Result<usize, ReadFailed> {
-    source.read(into)
+/// What a read into two bytes comes to, and what stands in them then.
+fn read<S: Source>(source: &mut S) -> (Result<usize, ReadFailed>, [u8; 2]) {
+    let mut into = [0; 2];
+    (source.read(&mut into), into)
 }
 
 #[test]
@@ -16,14 +18,16 @@ fn a_source_gives_its_bytes_and_fails_where_it_is_told(rt: HostRuntime) -> Resul
     let bytes = vec![in rt.alloc(); 1, 2, 3]?;
     let mut source = BytesSource::new(bytes, vec![in rt.alloc(); 1, 3]?);
     sent(&source);
-    let mut into = [0; 2];
-    assert_eq!(rt; read(&mut source, &mut into), Ok(2));
-    assert_eq!(rt; into, [1, 2]);
-    assert_eq!(rt; read(&mut source, &mut into), Err(ReadFailed));
-    assert_eq!(rt; read(&mut source, &mut into), Ok(1));
-    assert_eq!(rt; into, [3, 2]);
-    assert_eq!(rt; read(&mut source, &mut into), Err(ReadFailed));
-    assert_eq!(rt; read(&mut source, &mut into), Ok(0));
+    let rows = [
+        (Ok(2), [1, 2]),
+        (Err(ReadFailed), [0, 0]),
+        (Ok(1), [3, 0]),
+        (Err(ReadFailed), [0, 0]),
+        (Ok(0), [0, 0]),
+    ];
+    for row in rows {
+        assert_eq!(rt; read(&mut source), row);
+    }
     Ok(())
 }
 
@@ -35,10 +39,11 @@ fn write<O: Sink>(sink: &mut O, bytes: &[u8]) -> Result<usize, WriteFailed> {
 fn a_sink_keeps_its_bytes_and_fails_where_it_is_told(rt: HostRuntime) -> Result<(), Fail> {
     let mut sink = BytesSink::new(rt.alloc(), vec![in rt.alloc(); 1]?);
     sent(&sink);
-    assert_eq!(rt; write(&mut sink, &[1, 2]), Ok(2));
-    assert_eq!(rt; write(&mut sink, &[3]), Err(WriteFailed));
-    assert_eq!(rt; write(&mut sink, &[4]), Ok(1));
-    assert_eq!(rt; sink.taken(), [1, 2, 4].as_slice());
+    let rows = [([1, 2], Ok(2)), ([3, 3], Err(WriteFailed)), ([4, 5], Ok(2))];
+    for (bytes, row) in rows {
+        assert_eq!(rt; write(&mut sink, &bytes), row);
+    }
+    assert_eq!(rt; sink.taken(), [1, 2, 4, 5].as_slice());
     assert_eq!(rt; sink.starved(), 0);
     Ok(())
 }
@@ -57,6 +62,62 @@ fn two_links(alloc: Global, failing: Vec<u32>) -> Result<PlayDialer, AllocError>
     Ok(PlayDialer::new(alloc, vec![in alloc; first, second]?, failing))
 }
 
+/// A call of a dialer with what it comes to.
+#[derive(Clone, Copy)]
+enum Step {
+    Dial(Result<(), DialFailed>),
+    Send([u8; 2], Result<(), SendFailed>),
+    Receive(Result<Received, RecvFailed>, [u8; 2]),
+    HangUp,
+}
+
+fn take<N: Dialer>(rt: &impl Abort, dialer: &mut N, step: Step) {
+    match step {
+        Step::Dial(made) => assert_eq!(rt; dialer.dial("plant", 502, 1_000), made),
+        Step::Send(bytes, sent) => assert_eq!(rt; send_whole(dialer, &bytes), sent),
+        Step::Receive(got, bytes) => {
+            let mut into = [0; 2];
+            assert_eq!(rt; (dialer.recv(&mut into), into), (got, bytes));
+        }
+        Step::HangUp => dialer.hang_up(),
+    }
+}
+
+#[test]
+fn a_dialer_plays_its_links_and_tells_their_record(rt: HostRuntime) -> Result<(), Fail> {
+    let steps = [
+        Step::Dial(Err(DialFailed)),
+        Step::Dial(Ok(())),
+        Step::Receive(Ok(Received::Bytes(2)), [7, 8]),
+        Step::Send([1, 2], Ok(())),
+        Step::Receive(Ok(Received::Bytes(1)), [9, 0]),
+        Step::Send([3, 4], Err(SendFailed)),
+        Step::Receive(Ok(Received::Quiet), [0, 0]),
+        Step::Receive(Ok(Received::Closed), [0, 0]),
+        Step::Receive(Ok(Received::Quiet), [0, 0]),
+        Step::HangUp,
+        Step::Send([5, 5], Err(SendFailed)),
+        Step::Dial(Ok(())),
+        Step::Send([6, 6], Ok(())),
+        Step::Receive(Err(RecvFailed), [0, 0]),
+        Step::Send([6, 6], Err(SendFailed)),
+        Step::Dial(Err(DialFailed)),
+    ];
+    let mut dialer = two_links(rt.alloc(), vec![in rt.alloc(); 0]?)?;
+    sent(&dialer);
+    for step in steps {
+        take(&rt, &mut dialer, step);
+    }
+    assert_eq!(rt; (dialer.starved(), dialer.log().count()), (0, 2));
+    let first = dialer.log().link(0).ok_or("the first link")?;
+    assert_eq!(rt;
+        (first.host(), first.port(), first.answers()),
+        ("plant", 502, 5)
+    );
+    assert_eq!(rt; first.sent(), [1, 2, 3].as_slice());
+    Ok(())
+}
+
 /// Whether a dial, a send, a receive and a send work.
 fn four_calls<N: Dialer>(dialer: &mut N) -> [bool; 4] {
     let mut into = [0; 2];
@@ -66,52 +127,6 @@ fn four_calls<N: Dialer>(dialer: &mut N) -> [bool; 4] {
         dialer.recv(&mut into).is_ok(),
         dialer.send(&[2]).is_ok(),
     ]
-}
-
-/// Sends and receives on the first of the two links, up to what it doesn't take and past what it plays.
-fn first_link<N: Dialer>(rt: &impl Abort, dialer: &mut N) {
-    let mut into = [0; 2];
-    assert_eq!(rt; dialer.dial("plant", 502, 1_000), Ok(()));
-    assert_eq!(rt; dialer.recv(&mut into), Ok(Received::Bytes(2)));
-    assert_eq!(rt; into, [7, 8]);
-    assert_eq!(rt; send_whole(dialer, &[1, 2]), Ok(()));
-    assert_eq!(rt; dialer.recv(&mut into), Ok(Received::Bytes(1)));
-    assert_eq!(rt; into, [9, 8]);
-    assert_eq!(rt; send_whole(dialer, &[3, 4]), Err(SendFailed));
-    for played in [Received::Quiet, Received::Closed, Received::Quiet] {
-        assert_eq!(rt; dialer.recv(&mut into), Ok(played));
-    }
-    dialer.hang_up();
-    assert_eq!(rt; dialer.send(&[5]), Err(SendFailed));
-}
-
-/// Sends and receives on the second of the two links, which is over then, and dials past it.
-fn second_link<N: Dialer>(rt: &impl Abort, dialer: &mut N) {
-    let mut into = [0; 2];
-    assert_eq!(rt; dialer.dial("127.0.0.1", 5_020, 1_000), Ok(()));
-    assert_eq!(rt; dialer.send(&[6]), Ok(1));
-    assert_eq!(rt; dialer.recv(&mut into), Err(RecvFailed));
-    assert_eq!(rt; dialer.send(&[6]), Err(SendFailed));
-    assert_eq!(rt; dialer.dial("127.0.0.1", 5_020, 1_000), Err(DialFailed));
-}
-
-#[test]
-fn a_dialer_plays_its_links_and_tells_their_record(rt: HostRuntime) -> Result<(), Fail> {
-    let mut dialer = two_links(rt.alloc(), Vec::new(rt.alloc()))?;
-    sent(&dialer);
-    first_link(&rt, &mut dialer);
-    second_link(&rt, &mut dialer);
-    assert_eq!(rt; dialer.starved(), 0);
-    assert_eq!(rt; dialer.log().count(), 2);
-    let first = dialer.log().link(0).ok_or("the first link")?;
-    assert_eq!(rt; first.host(), "plant");
-    assert_eq!(rt; first.port(), 502);
-    assert_eq!(rt; first.sent(), [1, 2, 3].as_slice());
-    assert_eq!(rt; first.answers(), 5);
-    let second = dialer.log().link(1).ok_or("the second link")?;
-    assert_eq!(rt; second.sent(), [6].as_slice());
-    assert_ne!(rt; Received::Bytes(1), Received::Bytes(2));
-    Ok(())
 }
 
 #[test]
@@ -134,27 +149,23 @@ fn a_dialer_fails_where_it_is_told(rt: HostRuntime) -> Result<(), Fail> {
 }
 
 #[test]
-fn a_dial_that_fails_uses_up_no_link(rt: HostRuntime) -> Result<(), Fail> {
-    let mut dialer = two_links(rt.alloc(), vec![in rt.alloc(); 0]?)?;
-    assert_eq!(rt; dialer.dial("plant", 502, 1_000), Err(DialFailed));
-    first_link(&rt, &mut dialer);
-    Ok(())
-}
-
-#[test]
 fn a_watch_keeps_what_it_read_of_a_clock_that_goes_on(rt: HostRuntime) {
     let clock = StepClock::new(0, 1);
     shared(&clock);
     let mut watch = Watch::new(&clock);
-    assert_eq!(rt; watch.now(), 1);
+    let first = watch.now();
     watch.rest(10);
-    assert_eq!(rt; watch.now(), 12);
+    let second = watch.now();
+    assert_eq!(rt; (first, second, clock.now()), (1, 12, 13));
     assert_eq!(rt; watch.readings(), [1, 12].as_slice());
-    assert_eq!(rt; clock.now(), 13);
 
     let late = StepClock::new(999_999_999_999_998, 1);
-    assert_eq!(rt; late.now(), 999_999_999_999_999);
-    assert_eq!(rt; late.now(), 1_000_000_000_000_000);
-    late.rest(1);
-    assert_eq!(rt; late.now(), 1_000_000_000_000_000);
+    for reading in [
+        999_999_999_999_999,
+        1_000_000_000_000_000,
+        1_000_000_000_000_000,
+    ] {
+        assert_eq!(rt; late.now(), reading);
+        late.rest(1);
+    }
 }

@@ -1,7 +1,7 @@
-use Rattle.std.proofs.Common.{◌≡◌, ℕ, Option, Some, sym, ap, subst, ◌∙◌}
+use Rattle.std.proofs.Common.{◌≡◌, ℕ, Option, sym, ap, subst, ◌∙◌}
 use Rattle.std.specs.Option.{option_map}
 use Rattle.world_traits.specs.Causes.{HasCause}
-use Rattle.world_traits.specs.Links.{Link, Links}
+use Rattle.world_traits.specs.Links.{Links}
 use Rattle.commission_run.specs.Course.{target_of, with_past_link}
 use Rattle.commission_run.specs.Ends.{HasReplies, at_dialer}
 use Rattle.commission_run.proofs.Complete.{complete, one_link, on_ok, dialed_over}

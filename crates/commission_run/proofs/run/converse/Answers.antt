@@ -1,4 +1,4 @@
-use Rattle.std.proofs.Common.{◌≡◌, ℕ, ◌+◌, ◌*◌, ◌-◌, ◌<◌, length, List, [], ◌∷◌, ◌++◌, refl, Option, Some, None, Result, Ok, Err, OnOk, OnErr, sym, ap, subst, ◌∙◌, arith}
+use Rattle.std.proofs.Common.{◌≡◌, ℕ, ◌+◌, ◌*◌, ◌-◌, ◌<◌, length, List, [], ◌∷◌, ◌++◌, refl, Option, Ok, Err, OnOk, OnErr, sym, ap, subst, ◌∙◌, arith}
 use Rattle.std.specs.Prelude.{IsSome, is_some, option_to_list}
 use Rattle.std.proofs.lemmas.Result.{err_from_is_err_and}
 use Rattle.std.specs.Io.KnownBytes.{Appends}
@@ -10,7 +10,7 @@ use Rattle.commissioning.specs.Stage.{Standing, found_at}
 use Rattle.commissioning.specs.Asking.{asked}
 use Rattle.commissioning.specs.Runs.{request_by}
 use Rattle.commission_run.specs.declared.stop.Stop.{Stop}
-use Rattle.commission_run.specs.Lines.{AppendsFront, found_text, commissioned_line}
+use Rattle.commission_run.specs.Lines.{AppendsFront, found_text}
 use Rattle.commission_run.specs.Course.{target_of}
 use Rattle.commission_run.specs.Ends.{Outcome}
 use Rattle.commission_run.specs.Arriving.{Arrives, IsHandled, gained_text}

@@ -1,4 +1,4 @@
-use Rattle.std.proofs.Common.{◌≡◌, ℕ, List, Option, Result, Ok, OnOk, IfErr, ap, ◌∙◌, sym, subst}
+use Rattle.std.proofs.Common.{◌≡◌, Option, Ok, OnOk, IfErr, ap, ◌∙◌, sym, subst}
 use Rattle.std.specs.Prelude.{option_to_list}
 use Rattle.std.specs.Option.{option_map}
 use Rattle.std.specs.Io.KnownBytes.{Appends}
@@ -6,7 +6,6 @@ use Rattle.world_traits.specs.Links.{with_bytes}
 use Rattle.mbap_frames.specs.Stream.{frames_spelling}
 use Rattle.commissioning.specs.declared.commission.Took.{Took}
 use Rattle.commissioning.specs.declared.commission.Took.TheVariants.{Taken}
-use Rattle.commissioning.specs.declared.fault.CommissionFault.{CommissionFault}
 use Rattle.commissioning.specs.declared.found.Record702.{Record702}
 use Rattle.commissioning.specs.Stage.{Standing, found_at}
 use Rattle.commissioning.specs.Asking.{asked}

@@ -105,3 +105,15 @@ returns-in-Some-clause-commission_complete g c = λ inverter asked. said.commiss
 
 pub returns-in-None-clause-serve_complete : goal.returns-in-None-clause-serve_complete
 returns-in-None-clause-serve_complete g c = λ inverter turns asked. absurd (c.in-None.ensures.none (tasks.Serve inverter turns) asked)
+
+pub returns-in-Some-clause-refused : goal.returns-in-Some-clause-refused
+unfolding returns-in-Some-clause-ends
+returns-in-Some-clause-refused g c = λ task asked. said.refused c.one_meaning.ensures.not_both c.one_meaning.ensures.fault (g.K.Clock.may_give c.args.clock.now) task c.run_with_first.ensures.ends.0
+    (change g.S.Source.left g.S.Source.faults c.args.site.now c.run_with_first.new.site) (change g.O.Sink.taken g.O.Sink.faults c.args.out.now c.run_with_first.new.out)
+    (first_dialing g.N.Dialer.links g.N.Dialer.faults c.args.dialers.now.items c.run_with_first.new.dialers.items) c.run_with_first.result (returns-in-Some-clause-ends g c task asked).1
+
+pub returns-in-Some-clause-beyond : goal.returns-in-Some-clause-beyond
+unfolding returns-in-Some-clause-ends
+returns-in-Some-clause-beyond g c = λ task asked. said.beyond (g.K.Clock.may_give c.args.clock.now) task c.run_with_first.ensures.ends.0
+    (change g.S.Source.left g.S.Source.faults c.args.site.now c.run_with_first.new.site) (change g.O.Sink.taken g.O.Sink.faults c.args.out.now c.run_with_first.new.out)
+    (first_dialing g.N.Dialer.links g.N.Dialer.faults c.args.dialers.now.items c.run_with_first.new.dialers.items) c.run_with_first.result (returns-in-Some-clause-ends g c task asked).1

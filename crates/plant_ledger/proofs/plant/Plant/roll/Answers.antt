@@ -1,21 +1,6 @@
 use Rattle.plant_ledger.proofs.Kept.{kept_capped, kept_back, kept_covered, kept_safe, kept_tight}
 use Rattle.plant_ledger.proofs.plant.Plant.roll.Goals as goal
 
-pub returns-in_err-next-clause-capped : goal.returns-in_err-next-clause-capped
-returns-in_err-next-clause-capped c = kept_capped _
-
-pub returns-in_err-next-clause-back : goal.returns-in_err-next-clause-back
-returns-in_err-next-clause-back c = kept_back _
-
-pub returns-in_err-next-clause-covered : goal.returns-in_err-next-clause-covered
-returns-in_err-next-clause-covered c = kept_covered _
-
-pub returns-in_err-next-clause-safe : goal.returns-in_err-next-clause-safe
-returns-in_err-next-clause-safe c = kept_safe _
-
-pub returns-in_err-next-clause-tight : goal.returns-in_err-next-clause-tight
-returns-in_err-next-clause-tight c = kept_tight _
-
 pub returns-clause-capped : goal.returns-clause-capped
 returns-clause-capped c = kept_capped _
 

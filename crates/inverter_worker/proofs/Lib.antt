@@ -1,0 +1,4 @@
+pub mod Answered
+pub mod Runs
+pub mod Turns
+pub mod Requests

@@ -1,0 +1,89 @@
+-- What the ledger keeps of one inverter, and what one more entry makes of it.
+use Rattle.std.specs.Prelude.{◌≡◌, ℕ, ◌+◌, ◌<◌, ◌≤◌, true, false, List, ◌∷◌, [], ◌++◌, length, Option, Some, None}
+use Rattle.limiter_num.specs.declared.rules.Rules.{Rules}
+use Rattle.limiter_num.specs.Rating.{rated}
+use Rattle.plant_book.specs.declared.site.Unit.{Unit as Inverter}
+use Rattle.plant_book.specs.declared.call.Call.{Call}
+use Rattle.plant_book.specs.declared.call.Call.TheVariants as calls
+use Rattle.plant_book.specs.declared.call.Reply.{Reply}
+use Rattle.plant_book.specs.declared.call.Reply.TheVariants as replies
+use Rattle.plant_book.specs.declared.call.TheConstants.{MOMENT_MAX, REQUESTS_MAX}
+use Rattle.plant_book.specs.Book.{BookRecord}
+use Rattle.plant_book.specs.Requests as counted
+use Rattle.plant_book.specs.Policy as rule
+use Rattle.plant_book.specs.Writes as writes
+use Rattle.uncertain_writes.specs.Live.{live_max, has_numbers, without}
+use Rattle.plant_ledger.specs.declared.account.Account.{Account}
+
+-- the numbers of an inverter's account are those of the book at this moment
+pub record IsAccount (book : BookRecord) (now inverter : ℕ) (account : Account) : Type 0 where
+  pub link : account.link ≡ counted.link_number inverter book.entries
+  pub requests : account.requests ≡ counted.requests inverter book.entries
+  pub pending : account.pending ≡ counted.pending_read inverter book.entries
+  pub strange : account.strange ≡ rule.is_strange inverter book.entries
+  pub wish : account.wish ≡ rule.wish book inverter
+  pub live : account.live ≡ writes.live book.site.rules book.entries now inverter
+
+-- the account of an inverter that no call named: it wishes for its rating
+abbrev pub first_account : Inverter → Account
+first_account unit = record {
+  link = 0;
+  requests = 0;
+  pending = None;
+  strange = false;
+  wish = rated unit.rating;
+  live = [];
+}
+
+-- a grant answers an Ask of the write's inverter, and a numbered read a Read of its own
+abbrev pub IsReplyTo : Call → Reply → Type 0
+IsReplyTo (calls.Ask at inverter raw) (replies.Granted write) = write.inverter ≡ inverter
+IsReplyTo (calls.Read at inverter) (replies.ReadAs read) = read.inverter ≡ inverter
+IsReplyTo call (replies.Granted write) = ⊥
+IsReplyTo call (replies.ReadAs read) = ⊥
+IsReplyTo call _ = Unit {0}
+
+-- there is room for what a reply adds to the account
+abbrev pub HasRoom : Reply → Account → Type 0
+HasRoom (replies.Granted write) account = (account.requests < REQUESTS_MAX) × (length account.live < live_max)
+    × (write.at ≤ MOMENT_MAX)
+HasRoom (replies.ReadAs read) account = account.requests < REQUESTS_MAX
+HasRoom _ account = Unit {0}
+
+-- the account after each call of the inverter, by the reply
+abbrev pub after_ask : Reply → Account → Account
+after_ask (replies.Granted write) account =
+    record account { requests = account.requests + 1; live = account.live ++ write ∷ [] }
+after_ask _ account = account
+
+abbrev pub after_read : Reply → Account → Account
+after_read (replies.ReadAs read) account =
+    record account { requests = account.requests + 1; pending = Some read }
+after_read _ account = account
+
+abbrev pub after_saw : Rules → ℕ → Reply → Account → Account
+after_saw rules raw (replies.Freed count reserved) account =
+    record account {
+      pending = None;
+      strange = false;
+      live = without (writes.frees rules account.pending raw) account.live;
+    }
+after_saw rules raw (replies.Strange seen) account = record account { pending = None; strange = true }
+after_saw rules raw _ account = account
+
+abbrev pub after_back : ℕ → ℕ → Reply → Account → Account
+after_back link number replies.Taken account =
+    record account { live = without (has_numbers link number) account.live }
+after_back link number _ account = account
+
+abbrev pub after_call : Rules → Call → Reply → Account → Account
+after_call rules (calls.Link at inverter) reply account =
+    record account { link = account.link + 1; requests = 0; pending = None }
+after_call rules (calls.Ask at inverter raw) reply account = after_ask reply account
+after_call rules (calls.Read at inverter) reply account = after_read reply account
+after_call rules (calls.Saw at inverter number raw) reply account = after_saw rules raw reply account
+after_call rules (calls.Back at inverter link number) reply account = after_back link number reply account
+after_call rules (calls.Want at inverter mw) reply account = record account { wish = mw }
+after_call rules (calls.Tick at) reply account = account
+after_call rules (calls.Stop at) reply account = account
+after_call rules (calls.Cap at mw) reply account = account

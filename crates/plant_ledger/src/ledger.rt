@@ -1,0 +1,297 @@
+//! A book, and the account of each inverter.
+ghost use Rattle.std.specs.Prelude.{◌≡◌, ℕ, ◌<◌, ◌≤◌, ◌^◌, ◌||◌, ◌⊎◌, if◌then◌else◌, [], ◌∷◌, ◌++◌, length, map, Some, None, IfOk, IfErr, IfSome, OnOk, OnErr, slice_get, slice_set, slice_index_or};
+ghost use Rattle.plant_book.specs.Site.{inverters, floors};
+ghost use Rattle.plant_book.specs.Caps.{sets_cap, cap_by, cap_of};
+ghost use Rattle.plant_book.specs.Calls.{moment, named};
+ghost use Rattle.plant_book.specs.Answer.{silent_until, stops, is_stopped};
+ghost use Rattle.plant_book.specs.Answered.{IsOpenable, IsNext, IsAnswer};
+ghost use Rattle.plant_book.specs.Part.{begin_of, calls_of, book_behind};
+ghost use Rattle.plant_book.specs.Carry.{IsBookPart, EachBefore, EachBook};
+ghost use Rattle.plant_ledger.specs.declared.account.Account.{Account as Kept};
+ghost use Rattle.plant_ledger.specs.Account.{IsAccount, HasRoom, first_account, after_call};
+ghost use Rattle.plant_ledger.specs.Ledger.{IsUnit, IsAtLast, account_at};
+ghost use Rattle.plant_ledger.specs.Plant.{with_one, Rolls, IsFullLife};
+
+use crate::account::Account;
+use crate::rolling::{RollFault, next_book};
+use limiter_num::{NoMemory, Rules};
+use plant_book::{Book, CALLS_MAX, Call, Entry, MOMENT_MAX, Policy, Reply, Site, Unit};
+use std::alloc::Global;
+use std::marker::Model;
+use std::mem;
+
+/// A book with the account of each inverter at a moment from its last one on, so that no reply walks the
+/// entries.
+#[derive(Debug, Drop)]
+pub struct Ledger {
+    book: Book,
+    moment: u64,
+    accounts: Vec<Account>,
+    cap: u64,
+    stopped: bool,
+}
+
+impl Model for Ledger {
+    ghost use Rattle.plant_ledger.specs.Ledger.{LedgerRecord, IsLedgerOf};
+
+    ghost Value = { LedgerRecord };
+
+    ghost view = { λ l. record { book = l.book; at = l.moment } };
+
+    ghost invariant = { λ l. IsLedgerOf l.book l.moment l.accounts.items l.cap l.stopped };
+}
+
+impl Ledger {
+    /// Opens the book of a site at a moment in ms, with all memory that it will need.
+    pub fn new(alloc: Global, site: Site, start: u64) -> Result<Ledger, NoMemory>
+        requires openable { IsOpenable site }
+        requires start { start ≤ MOMENT_MAX }
+        ensures { IfOk result (λ ledger. ledger ≡ record {
+          book = record { site = site; start = start; carry = None; entries = [] };
+          at = start;
+        }) }
+    {
+        let accounts = first_accounts(alloc, &site.units)?;
+        let cap = site.cap;
+        let book = Book::new(alloc, site, start, None)?;
+        Ok(Ledger {
+            book,
+            moment: start,
+            accounts,
+            cap,
+            stopped: false,
+        })
+    }
+
+    /// Goes on to a moment in ms: writes that are past by then are live no more.
+    pub fn advance(&mut self, now: u64)
+        requires later { self.old.at ≤ now }
+        requires high { now ≤ MOMENT_MAX }
+        ensures { self.new ≡ record self.old { at = now } }
+    {
+        let rules = rules_of(&self.book);
+        expire(&mut self.accounts, &rules, now);
+        self.moment = now;
+    }
+
+    /// Writes one more entry of this moment at the end, and keeps the accounts.
+    pub fn enter(&mut self, entry: Entry)
+        requires room { length self.old.book.entries < self.old.book.site.room }
+        requires life { calls_of self.old.book < CALLS_MAX }
+        requires next { IsNext self.old.book.site (begin_of self.old.book) self.old.book.entries entry.call }
+        requires answer { EachBefore self.old.book
+            (λ before. IsAnswer (book_behind before self.old.book) (before ++ self.old.book.entries) entry) }
+        requires now { moment entry.call ≡ self.old.at }
+        ensures { self.new ≡ record { book = with_one self.old.book entry; at = self.old.at } }
+    {
+        let rules = rules_of(&self.book);
+        follow(&mut self.accounts, &rules, &entry);
+        self.cap = cap_after(self.cap, &entry);
+        self.stopped = is_stopped_after(self.stopped, &entry.call);
+        self.book.push(entry);
+    }
+
+    /// Ends the book, hands it out, and goes on with an empty one that begins with what the life leaves.
+    /// After a refusal all is as before.
+    pub fn roll(&mut self, alloc: Global) -> Result<Book, RollFault>
+        requires { IsAtLast self.old }
+        ensures ended { IfOk result (λ ended. ended ≡ self.old.book) }
+        ensures lives { OnOk result (EachBefore self.old.book
+            (λ before. Rolls before self.old.book self.new.book)) }
+        ensures unfilled { OnOk result (¬ IsFullLife self.old.book) }
+        ensures refused { IfErr result (λ fault.
+            (IsFullLife self.old.book × (fault ≡ RollFault.LifeFull (calls_of self.old.book)))
+            ⊎ ((¬ IsFullLife self.old.book) × (fault ≡ RollFault.NoMemory))) }
+        ensures unchanged { OnErr result (self.new ≡ self.old) }
+        ensures kept { IsAtLast self.new }
+    {
+        let next = next_book(alloc, &self.book)?;
+        Ok(mem::replace(&mut self.book, next))
+    }
+
+    /// The book.
+    pub fn book(&self) -> &Book
+        ensures book { result.now ≡ self.now.book }
+        ensures kept { IsBookPart self.now.book }
+    {
+        &self.book
+    }
+
+    /// How many inverters the site has.
+    pub fn inverters(&self) -> u8
+        ensures count { result ≡ inverters self.now.book.site }
+        ensures of_life { IsBookPart self.now.book }
+    {
+        self.accounts.len() as u8
+    }
+
+    /// The last moment at which earlier lives may still act, in ms.
+    pub fn silent_until(&self) -> u64
+        ensures { EachBook self.now.book (λ whole. result ≡ silent_until whole) }
+    {
+        let book = &self.book;
+        book.start + rules_of(book).reach()
+    }
+
+    /// The rules of the site.
+    pub fn rules(&self) -> Rules
+        ensures { result ≡ self.now.book.site.rules }
+    {
+        rules_of(&self.book)
+    }
+
+    /// The cap in force, in mW.
+    pub fn cap(&self) -> u64
+        ensures cap { EachBook self.now.book (λ whole. result ≡ cap_of whole) }
+        ensures high { result ≤ 10 ^ 14 }
+    {
+        self.cap
+    }
+
+    /// The cap of the site, in mW.
+    pub fn site_cap(&self) -> u64
+        ensures { result ≡ self.now.book.site.cap }
+    {
+        site_cap_of(&self.book)
+    }
+
+    /// The milliwatts of all floors.
+    pub fn floors(&self) -> u64
+        ensures { result ≡ floors self.now.book.site }
+    {
+        let book = &self.book;
+        let site = &book.site;
+        site.floors()
+    }
+
+    /// The policy of the site.
+    pub fn policy(&self) -> Policy
+        ensures { result ≡ self.now.book.site.policy }
+    {
+        policy_of(&self.book)
+    }
+
+    /// The moment of the accounts, in ms.
+    pub fn now(&self) -> u64
+        ensures now { result ≡ self.now.at }
+        ensures high { self.now.at ≤ MOMENT_MAX }
+    {
+        self.moment
+    }
+
+    /// The inverter of this number.
+    pub fn unit(&self, inverter: u8) -> &Unit
+        requires { inverter < inverters self.now.book.site }
+        ensures unit { slice_get self.now.book.site.units inverter ≡ Some result.now }
+        ensures numbers { IsUnit self.now.book.site inverter result.now }
+    {
+        unit_of(&self.book, inverter)
+    }
+
+    /// The account of the inverter.
+    pub fn account(&self, inverter: u8) -> &Account
+        requires { inverter < inverters self.now.book.site }
+        ensures account { EachBook self.now.book (λ whole. IsAccount whole self.now.at inverter result.now) }
+        ensures links { calls_of self.now.book < CALLS_MAX → result.now.link < 4294967295 }
+    {
+        &self.accounts[usize::from(inverter)]
+    }
+
+    /// Whether a Stop stands in the book.
+    pub fn is_stopped(&self) -> bool
+        ensures { EachBook self.now.book (λ whole. result ≡ is_stopped whole) }
+    {
+        self.stopped
+    }
+}
+
+/// The rules of the book's site.
+fn rules_of(book: &Book) -> Rules
+    ensures { result ≡ book.now.site.rules }
+{
+    let site = &book.site;
+    site.rules
+}
+
+/// The cap of the book's site, in mW.
+fn site_cap_of(book: &Book) -> u64
+    ensures { result ≡ book.now.site.cap }
+{
+    let site = &book.site;
+    site.cap
+}
+
+/// The policy of the book's site.
+fn policy_of(book: &Book) -> Policy
+    ensures { result ≡ book.now.site.policy }
+{
+    let site = &book.site;
+    site.policy
+}
+
+/// The inverter of this number.
+fn unit_of(book: &Book, inverter: u8) -> &Unit
+    requires { inverter < inverters book.now.site }
+    ensures { slice_get book.now.site.units inverter ≡ Some result.now }
+{
+    let site = &book.site;
+    &site.units[usize::from(inverter)]
+}
+
+/// The accounts of these inverters before the first call.
+fn first_accounts(alloc: Global, units: &[Unit]) -> Result<Vec<Account>, NoMemory>
+    ensures { IfOk result (λ accounts. accounts.items ≡ map first_account units.now) }
+{
+    let Ok(mut accounts) = Vec::with_capacity(alloc, units.len()) else {
+        return Err(NoMemory);
+    };
+    for unit in units {
+        accounts.push_reserved(Account::new(unit));
+    }
+    Ok(accounts)
+}
+
+/// Drops the writes of all accounts that are past by this moment, in ms.
+fn expire(accounts: &mut [Account], rules: &Rules, now: u64)
+    ensures { accounts.new ≡ map (account_at rules.now now) accounts.old }
+{
+    for account in accounts.iter_mut() {
+        account.expire(rules, now);
+    }
+}
+
+/// The account of the inverter that one more entry names follows it.
+fn follow(accounts: &mut [Account], rules: &Rules, entry: &Entry)
+    requires within { IfSome (named entry.now.call) (λ inverter. inverter < length accounts.old) }
+    requires links { (inverter : ℕ) (otherwise : Kept) → named entry.now.call ≡ Some inverter
+        → (slice_index_or accounts.old inverter otherwise).link < 4294967295 }
+    requires room { (inverter : ℕ) (otherwise : Kept) → named entry.now.call ≡ Some inverter
+        → HasRoom entry.now.reply (slice_index_or accounts.old inverter otherwise) }
+    ensures named { (inverter : ℕ) (otherwise : Kept) → named entry.now.call ≡ Some inverter
+        → accounts.new ≡ slice_set accounts.old inverter
+        (after_call rules.now entry.now.call entry.now.reply
+        (slice_index_or accounts.old inverter otherwise)) }
+    ensures unnamed { named entry.now.call ≡ None → accounts.new ≡ accounts.old }
+{
+    if let Some(inverter) = entry.call.inverter() {
+        let account = &mut accounts[usize::from(inverter)];
+        account.follow(rules, entry);
+    }
+}
+
+/// The cap in force after one more entry, in mW.
+fn cap_after(cap: u64, entry: &Entry) -> u64
+    ensures { result ≡ (if sets_cap entry.now then cap_by cap entry.now.call else cap) }
+{
+    match (entry.call, entry.reply) {
+        (Call::Cap { mw, .. }, Reply::CapSet { .. }) => mw,
+        _ => cap,
+    }
+}
+
+/// Whether the plant is to stop after one more call.
+fn is_stopped_after(stopped: bool, call: &Call) -> bool
+    ensures { result ≡ (stopped || stops call.now) }
+{
+    stopped || matches!(call, Call::Stop { .. })
+}
