@@ -1,0 +1,67 @@
+-- What a desk means, and what each of its calls does to that.
+use Rattle.std.specs.Prelude.{◌≡◌, ℕ, ◌≤◌, List, [], ◌∷◌, ◌++◌, length}
+use Rattle.plant_book.specs.declared.call.Call.{Call}
+use Rattle.plant_book.specs.declared.call.Reply.{Reply}
+use Rattle.plant_book.specs.declared.call.TheConstants.{MOMENT_MAX}
+use Rattle.plant_book.specs.declared.book.Entry.{Entry}
+use Rattle.plant_book.specs.Calls.{moment, at_moment}
+use Rattle.plant_book.specs.Part.{PartRecord}
+use Rattle.plant_ledger.specs.declared.plant.Goal.{Goal}
+use Rattle.ledger_desk.specs.Calls.{IsReplyTo}
+
+-- The entries that were made through a desk, in order; its front, a number that never falls; the count of its
+-- inverters; and the places of its rolls, in order.
+pub record DeskState : Type 0 where
+  pub made : List Entry
+  pub front : ℕ
+  pub inverters : ℕ
+  pub rolls : List ℕ
+
+-- A test of goals: whether a desk may have told this goal of an inverter at this place, after so many of the
+-- entries that were made through it.
+abbrev pub GoalTest : Type 1
+GoalTest = (made place inverter : ℕ) → Goal → Type 0
+
+-- A test of rolls: whether its roll of this number, counted from 1, ended this book.
+abbrev pub RollTest : Type 1
+RollTest = (number : ℕ) → PartRecord → Type 0
+
+-- A test of a full life: whether the life had so many calls, and these and the room were more than it may have.
+abbrev pub LifeTest : Type 1
+LifeTest = (calls : ℕ) → Type 0
+
+-- what has passed a test passes it later too
+abbrev pub GoalsLast : GoalTest → GoalTest → Type 0
+GoalsLast old new = (made place inverter : ℕ) (goal : Goal) → old made place inverter goal
+    → new made place inverter goal
+
+abbrev pub RollsLast : RollTest → RollTest → Type 0
+RollsLast old new = (number : ℕ) (book : PartRecord) → old number book → new number book
+
+abbrev pub LivesLast : LifeTest → LifeTest → Type 0
+LivesLast old new = (calls : ℕ) → old calls → new calls
+
+-- nothing was entered and nothing rolled; others may have moved the front
+pub record EntersNone (old new : DeskState) : Type 0 where
+  pub made : new.made ≡ old.made
+  pub front : old.front ≤ new.front
+  pub inverters : new.inverters ≡ old.inverters
+  pub rolls : new.rolls ≡ old.rolls
+
+-- One entry more: the call, at its own moment or a later one, with the reply.
+pub record Enters (call : Call) (reply : Reply) (old new : DeskState) : Type 0 where
+  pub at : ℕ
+  pub later : moment call ≤ at
+  pub high : at ≤ MOMENT_MAX
+  pub made : new.made ≡ old.made ++ record { call = at_moment at call; reply = reply } ∷ []
+  pub fits : IsReplyTo (at_moment at call) reply
+  pub front : old.front ≤ new.front
+  pub inverters : new.inverters ≡ old.inverters
+  pub rolls : new.rolls ≡ old.rolls
+
+-- One roll more: its place is the front right after it.
+pub record AddsRoll (old new : DeskState) : Type 0 where
+  pub made : new.made ≡ old.made
+  pub front : old.front ≤ new.front
+  pub inverters : new.inverters ≡ old.inverters
+  pub rolls : new.rolls ≡ old.rolls ++ new.front ∷ []

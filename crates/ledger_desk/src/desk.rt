@@ -1,0 +1,84 @@
+ghost use Rattle.std.specs.Prelude.{◌≡◌, ℕ, ◌<◌, ◌≤◌, length, IfOk, IfErr, IfSome, OnErr};
+ghost use Rattle.plant_book.specs.Calls.{moment, named};
+ghost use Rattle.plant_book.specs.Answered.{IsInRange};
+ghost use Rattle.plant_book.specs.Part.{PartRecord};
+ghost use Rattle.plant_ledger.specs.declared.plant.Goal.{Goal as Told};
+ghost use Rattle.plant_ledger.specs.declared.rolling.RollFault.{RollFault as Refused};
+ghost use Rattle.plant_ledger.specs.Opening.{ticket_for};
+ghost use Rattle.plant_ledger.specs.Release.{back_of};
+ghost use Rattle.ledger_desk.specs.Calls.{IsBack};
+ghost use Rattle.ledger_desk.specs.Desk.{DeskState, EntersNone, Enters, AddsRoll, GoalsLast, RollsLast, LivesLast};
+
+use plant_book::{Book, Call, MOMENT_MAX, Reply};
+use plant_ledger::{BookFull, Goal, Outcome, RollFault, Ticket};
+use std::alloc::Global;
+
+/// A way to the ledger. Whoever works through a desk gives back only a write whose ticket it still holds: `call` takes
+/// no Back, and `release` uses the ticket up.
+///
+/// Each call may wait for its turn, and none is handed the runtime: a desk that waits holds what it waits by.
+pub trait Desk {
+    /// The entries that were made through the desk, its front, its inverters and its rolls.
+    ghost state: { Self → DeskState };
+
+    /// Whether it may have told this goal of an inverter at this place, after so many of its entries.
+    ghost may_tell: { Self → (made place inverter : ℕ) → Told → Type 0 };
+
+    /// Whether a book of the life was full.
+    ghost was_full: { Self → Type 0 };
+
+    /// Whether its roll of this number, counted from 1, ended this book.
+    ghost ended: { Self → (number : ℕ) → PartRecord → Type 0 };
+
+    /// Whether the life had so many calls, and these and the room were more than it may have.
+    ghost was_full_life: { Self → (calls : ℕ) → Type 0 };
+
+    /// Enters a call and answers it.
+    fn call(&mut self, call: Call) -> Result<Outcome, BookFull>
+        requires no_back { ¬ IsBack call }
+        requires moment { moment call ≤ MOMENT_MAX }
+        requires of_desk { IfSome (named call) (λ inverter. inverter < (state self.old).inverters) }
+        requires in_range { IsInRange call }
+        ensures entered { IfOk result (λ outcome. Enters call outcome.reply (state self.old) (state self.new)) }
+        ensures ticket { IfOk result (λ outcome. outcome.ticket ≡ ticket_for outcome.reply) }
+        ensures none { OnErr result (EntersNone (state self.old) (state self.new)) }
+        ensures full { OnErr result (was_full self.new) }
+        ensures goals_last { GoalsLast (may_tell self.old) (may_tell self.new) }
+        ensures full_lasts { was_full self.old → was_full self.new }
+        ensures rolls_last { RollsLast (ended self.old) (ended self.new) }
+        ensures lives_last { LivesLast (was_full_life self.old) (was_full_life self.new) };
+
+    /// Gives back a write that was not sent and never will be. The ticket is used up, at a full book too.
+    fn release(&mut self, ticket: Ticket, at: u64) -> Result<Reply, BookFull>
+        requires moment { at ≤ MOMENT_MAX }
+        requires of_desk { ticket.inverter < (state self.old).inverters }
+        ensures entered { IfOk result (λ reply. Enters (back_of ticket at) reply (state self.old) (state self.new)) }
+        ensures none { OnErr result (EntersNone (state self.old) (state self.new)) }
+        ensures full { OnErr result (was_full self.new) }
+        ensures goals_last { GoalsLast (may_tell self.old) (may_tell self.new) }
+        ensures full_lasts { was_full self.old → was_full self.new }
+        ensures rolls_last { RollsLast (ended self.old) (ended self.new) }
+        ensures lives_last { LivesLast (was_full_life self.old) (was_full_life self.new) };
+
+    /// What the inverter may aim at.
+    fn goal(&mut self, inverter: u8) -> Goal
+        requires { inverter < (state self.old).inverters }
+        ensures none { EntersNone (state self.old) (state self.new) }
+        ensures told { may_tell self.new (length (state self.new).made) (state self.new).front inverter result }
+        ensures goals_last { GoalsLast (may_tell self.old) (may_tell self.new) }
+        ensures full_lasts { was_full self.old → was_full self.new }
+        ensures rolls_last { RollsLast (ended self.old) (ended self.new) }
+        ensures lives_last { LivesLast (was_full_life self.old) (was_full_life self.new) };
+
+    /// Ends the book, hands it out, and goes on with an empty one. After a refusal the book is as before.
+    fn roll(&mut self, alloc: Global) -> Result<Book, RollFault>
+        ensures rolled { IfOk result (λ book. AddsRoll (state self.old) (state self.new)) }
+        ensures ended { IfOk result (λ book. ended self.new (length (state self.new).rolls) book) }
+        ensures none { OnErr result (EntersNone (state self.old) (state self.new)) }
+        ensures full_life { (calls : ℕ) → IfErr result (λ fault. fault ≡ RollFault.LifeFull calls
+            → was_full_life self.new calls) }
+        ensures goals_last { GoalsLast (may_tell self.old) (may_tell self.new) }
+        ensures full_lasts { was_full self.old → was_full self.new }
+        ensures rolls_last { RollsLast (ended self.old) (ended self.new) }
+        ensures lives_last { LivesLast (was_full_life self.old) (was_full_life self.new) };
+}
