@@ -1,0 +1,5 @@
+pub mod Told
+pub mod Rows
+pub mod Going
+pub mod Rooms
+pub mod Turn

@@ -1,0 +1,14 @@
+//! One turn of a worker: it does what the table of `inverter_worker` puts out, one output after another, with a desk, a
+//! dialer and a clock, and hands the table what came of each.
+//!
+//! What a turn is stands in `specs/Worker.antt`, and what it is to do an output in `specs/Doing.antt`.
+#![tactic(auto)]
+
+mod begin;
+mod desk_acts;
+mod link_acts;
+mod perform;
+mod turning;
+mod worker;
+
+pub use worker::{Turned, Worker};
