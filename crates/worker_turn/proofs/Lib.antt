@@ -3,3 +3,4 @@ pub mod Rows
 pub mod Going
 pub mod Rooms
 pub mod Turn
+pub mod Agreeing

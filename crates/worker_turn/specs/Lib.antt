@@ -3,3 +3,4 @@ pub mod Desks
 pub mod Worker
 pub mod Acts
 pub mod Turning
+pub mod Agreeing

@@ -6,9 +6,11 @@
 
 mod begin;
 mod desk_acts;
+mod laws;
 mod link_acts;
 mod perform;
 mod turning;
 mod worker;
 
+pub use laws::{calls_are_entered, failures_are_counted};
 pub use worker::{Turned, Worker};
