@@ -85,8 +85,8 @@ by_none why unread rest after old new next waiting came =
 
 -- a receive gave no bytes behind less than a frame
 pub by_receive : (why : NoFrame) (unread rest : List ℕ) (old new : Option Links) → IsUnfinished unread
-    → GivesNone why old new → Arrives (Err why) unread rest old new
-by_receive none.Quiet unread rest old new less gives = (less, gives)
-by_receive none.Closed unread rest old new less gives = (less, gives)
-by_receive none.RecvFailed unread rest old new less gives = (less, gives)
-by_receive (none.BadFrame fault) unread rest old new less gives = absurd gives
+    → GivesNone why old new → rest ≡ unread → Arrives (Err why) unread rest old new
+by_receive none.Quiet unread rest old new less gives stay = (less, gives, stay)
+by_receive none.Closed unread rest old new less gives stay = (less, gives, stay)
+by_receive none.RecvFailed unread rest old new less gives stay = (less, gives, stay)
+by_receive (none.BadFrame fault) unread rest old new less gives stay = absurd gives

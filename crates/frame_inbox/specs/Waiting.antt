@@ -31,10 +31,10 @@ abbrev pub Lacks : NoFrame → List ℕ → Type 0
 Lacks (none.BadFrame fault) bytes = HasFault bytes fault
 Lacks _ bytes = IsUnfinished bytes
 
--- What came of these bytes: the frame that stands first, with the others unread, or none.
+-- What came of these bytes: the frame that stands first, with the others unread; or none, and all stay unread.
 abbrev pub Comes : Result Frame NoFrame → (bytes unread : List ℕ) → (old new : Option Links) → Type 0
 Comes (Ok frame) bytes unread old new = IsFrame frame × (bytes ≡ frame_spelling frame ++ unread) × (new ≡ old)
-Comes (Err why) bytes unread old new = Lacks why bytes × EndsLink why old new
+Comes (Err why) bytes unread old new = Lacks why bytes × EndsLink why old new × (unread ≡ bytes)
 
 -- A wait: pieces were received, and this came of the bytes that were unread before with theirs behind them.
 pub record Waits (result : Result Frame NoFrame) (unread rest : List ℕ) (old new : Option Links) : Type 0 where
@@ -61,4 +61,4 @@ Arrives (Ok (Some frame)) unread rest old new =
 Arrives (Ok None) unread rest old new =
     IsUnfinished unread × (piece : List ℕ) × (0 < length piece) × (rest ≡ unread ++ piece)
     × (new ≡ option_map (with_receipt (Bytes piece)) old)
-Arrives (Err why) unread rest old new = Lacks why unread × EndsLink why old new
+Arrives (Err why) unread rest old new = Lacks why unread × EndsLink why old new × (rest ≡ unread)

@@ -32,7 +32,7 @@ same_desk old new is = ap (λ (w : World). w.desk.made) is
 gains_one : (called : Call) (answer : Reply) (old new : World) → Enters called answer old.desk new.desk
     → Gains (record { call = called; reply = answer } ∷ []) old new
 gains_one called answer old new enters =
-    (_ , enters.made, (record { at = enters.at; later = enters.later; is = refl }, tt))
+    (_, enters.made, (record { at = enters.at; later = enters.later; is = refl }, tt))
 
 gains : (job : Job) (output : Output) (came : Input) (old new : World) → IsDone job output came old new → Gains (made_by output came) old new
 gains job output.Goal (input.Goal goal) old new done = gains_none old new done.0.made

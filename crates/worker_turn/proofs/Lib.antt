@@ -4,3 +4,5 @@ pub mod Going
 pub mod Rooms
 pub mod Turn
 pub mod Agreeing
+pub mod Reading
+pub mod Dialing

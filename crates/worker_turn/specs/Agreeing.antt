@@ -1,6 +1,12 @@
 -- What a run whose outputs were done has to do with the book and the dialer.
-use Rattle.std.specs.Prelude.{◌≡◌, ℕ, ◌≤◌, List, [], ◌∷◌, ◌++◌}
+use Rattle.std.specs.Prelude.{◌≡◌, ℕ, ◌<◌, ◌≤◌, List, [], ◌∷◌, ◌++◌, Option, Some, length, map, take}
 use Rattle.std.specs.List.{flat_map}
+use Rattle.world_traits.specs.Links.{Link, Links, all_links, received_bytes}
+use Rattle.mbap_frames.specs.declared.frame.Frame.{Frame}
+use Rattle.mbap_frames.specs.Frame.{frame_spelling}
+use Rattle.mbap_frames.specs.Stream.{frames_spelling}
+use Rattle.inverter_worker.specs.declared.job.Job.{Job}
+use Rattle.worker_turn.specs.Doing.{request_frame}
 use Rattle.plant_book.specs.declared.book.Entry.{Entry}
 use Rattle.plant_book.specs.Calls.{moment, at_moment}
 use Rattle.plant_ledger.specs.Release.{back_of}
@@ -41,3 +47,57 @@ failure_in came = []
 
 abbrev pub failures : List RunStep → List Input
 failures run = flat_map (λ one. failure_in one.input) run
+
+-- The bytes that were received on the link that is up are those of these frames, and then those that are unread.
+abbrev pub IsRead : List Frame → (unread : List ℕ) → Option Links → Type 0
+IsRead frames unread told = (links : Links) (link : Link) → told ≡ Some links → links.current ≡ Some link
+    → received_bytes link ≡ frames_spelling frames ++ unread
+
+-- the frames that were read on the link that is up, after an input, and after those of a run
+abbrev pub frames_with : List Frame → Input → List Frame
+frames_with frames input.Dialed = []
+frames_with frames (input.Frame frame) = frames ++ frame ∷ []
+frames_with frames came = frames
+
+abbrev pub frames_after : List Frame → List RunStep → List Frame
+frames_after frames [] = frames
+frames_after frames (one ∷ later) = frames_after (frames_with frames one.input) later
+
+-- where a link was dialed, and where all of them were
+pub record Endpoint : Type 0 where
+  pub host : List ℕ
+  pub port : ℕ
+
+abbrev pub endpoint : Link → Endpoint
+endpoint link = record { host = link.host; port = link.port }
+
+abbrev pub endpoints : Links → List Endpoint
+endpoints links = map endpoint (all_links links)
+
+-- a link of the job, where an input says that one was dialed
+abbrev pub dialed_in : Job → Input → List Endpoint
+dialed_in job input.Dialed = record { host = job.port.host; port = job.port.port } ∷ []
+dialed_in job came = []
+
+abbrev pub dialed : Job → List RunStep → List Endpoint
+dialed job run = flat_map (λ one. dialed_in job one.input) run
+
+-- these bytes were sent on the link that is up
+abbrev pub IsSent : List ℕ → Option Links → Type 0
+IsSent bytes told = (links : Links) (link : Link) → told ≡ Some links → links.current ≡ Some link → link.sent ≡ bytes
+
+-- The bytes sent on the link that is up, before and after an output that was done with this input: a new link has none; a
+-- request that went out whole is its frame, and of one whose send failed there is a part.
+abbrev pub Sends : Job → Output → Input → (before after : List ℕ) → Type 0
+Sends job output.Dial input.Dialed before after = after ≡ []
+Sends job (output.Send request clock) input.SentAll before after =
+    after ≡ before ++ frame_spelling (request_frame job request)
+Sends job (output.Send request clock) input.SendFailed before after =
+    (count : ℕ) × (count < length (frame_spelling (request_frame job request)))
+    × (after ≡ before ++ take count (frame_spelling (request_frame job request)))
+Sends job output came before after = after ≡ before
+
+abbrev pub AreSent : Job → Output → List RunStep → (before after : List ℕ) → Type 0
+AreSent job output [] before after = after ≡ before
+AreSent job output (next ∷ later) before after =
+    (between : List ℕ) × Sends job output next.input before between × AreSent job next.output later between after

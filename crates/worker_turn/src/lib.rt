@@ -12,5 +12,7 @@ mod perform;
 mod turning;
 mod worker;
 
-pub use laws::{calls_are_entered, failures_are_counted};
+pub use laws::{
+    calls_are_entered, failures_are_counted, frames_are_read_in_order, links_are_the_jobs,
+};
 pub use worker::{Turned, Worker};
