@@ -6,5 +6,10 @@
 #![tactic(auto)]
 
 mod desk;
+mod plain_desk;
 
 pub use desk::Desk;
+pub use plain_desk::PlainDesk;
+
+#[cfg(test)]
+mod tests;

@@ -1,0 +1,4 @@
+pub mod Replies
+pub mod Later
+pub mod Calls
+pub mod Rolled
