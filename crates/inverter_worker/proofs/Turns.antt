@@ -261,15 +261,15 @@ rows job state Resting input.Rested =
 rows job state step came = tt
 
 -- within a turn a step has what is left
-steps_same : (skipped : ℕ) (step : Step) → step ≢ Ready → steps_at skipped step ≡ steps_left skipped step
+pub steps_same : (skipped : ℕ) (step : Step) → step ≢ Ready → steps_at skipped step ≡ steps_left skipped step
 steps_same skipped Ready within = absurd (within refl)
 steps_same skipped _ within = refl
 
-clock_same : (step : Step) → step ≢ Ready → clock_at step ≡ clock_left step
+pub clock_same : (step : Step) → step ≢ Ready → clock_at step ≡ clock_left step
 clock_same Ready within = absurd (within refl)
 clock_same _ within = refl
 
-requests_same : (step : Step) → step ≢ Ready → requests_at step ≡ requests_left step
+pub requests_same : (step : Step) → step ≢ Ready → requests_at step ≡ requests_left step
 requests_same Ready within = absurd (within refl)
 requests_same _ within = refl
 
@@ -303,7 +303,7 @@ more state next step one later takes has = record {
   requests = omega (arith, takes.requests, has.requests, length-append (sends_of one.output) (log later));
 }
 
-taken : (job : Job) (from : State) (one : RunStep) (next : State)
+pub taken : (job : Job) (from : State) (one : RunStep) (next : State)
     → row job from from.step one.input ≡ Some (next, one.output)
     → Takes from from.step one.input next one.output
 taken job from one next is =

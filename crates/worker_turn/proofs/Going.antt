@@ -1,0 +1,251 @@
+-- One output more is done.
+use Rattle.std.proofs.Common.{◌≡◌, ◌≢◌, ℕ, ◌+◌, ◌≤◌, List, [], ◌∷◌, ◌++◌, length, Option, Some, None, Result, Ok, Err, refl, sym, ap, subst, ◌∙◌, arith, append-nil, append_assoc}
+use Rattle.std.specs.List.{AllByRecursion}
+use Rattle.std.proofs.lemmas.List.Concat.{flat_map-append}
+use Rattle.plant_book.specs.declared.call.Call.{Call}
+use Rattle.plant_book.specs.declared.call.Call.TheVariants as call
+use Rattle.plant_book.specs.declared.call.Reply.{Reply}
+use Rattle.plant_book.specs.declared.call.Reply.TheVariants as reply
+use Rattle.plant_ledger.specs.Release.{back_of}
+use Rattle.mbap_frames.specs.declared.frame.Frame.{Frame}
+use Rattle.frame_inbox.specs.declared.inbox.NoFrame.{NoFrame}
+use Rattle.frame_inbox.specs.declared.inbox.NoFrame.TheVariants as none
+use Rattle.plant_ledger.specs.declared.plant.Goal.{Goal}
+use Rattle.ledger_desk.specs.Desk.{DeskState, GoalTest, GoalsLast, EntersNone, Enters}
+use Rattle.inverter_worker.specs.declared.job.Job.{Job}
+use Rattle.inverter_worker.specs.declared.input.Input.{Input}
+use Rattle.inverter_worker.specs.declared.input.Input.TheVariants as input
+use Rattle.inverter_worker.specs.declared.output.Output.{Output}
+use Rattle.inverter_worker.specs.declared.output.Output.TheVariants as output
+use Rattle.inverter_worker.specs.declared.output.Asked.{Asked}
+use Rattle.inverter_worker.specs.declared.output.Sent.{Sent}
+use Rattle.inverter_worker.specs.declared.state.State.{State}
+use Rattle.inverter_worker.specs.declared.state.Step.{Step}
+use Rattle.inverter_worker.specs.Table.{table}
+use Rattle.inverter_worker.specs.Answers.{IsAnswerTo, IsReplyTo}
+use Rattle.inverter_worker.specs.Runs.{RunStep, LeadsTo, log, sends_of}
+use Rattle.inverter_worker.specs.Turns.{IsWithinTurn, reading_in, readings}
+use Rattle.inverter_worker.proofs.Runs.{LeadsTo-push}
+use Rattle.worker_turn.specs.Doing.{World, IsDone, AreDone, IsCome, arrival, request_frame}
+use Rattle.worker_turn.specs.Desks.{IsTold, IsToldNow}
+use Rattle.worker_turn.specs.Acts.{Stands}
+use Rattle.worker_turn.specs.Turning.{pending, Follows, IsFresh}
+use Rattle.worker_turn.proofs.Rows.{IsNotGoal, IsNotNoMemory, Led, led, not_ready}
+
+-- what came is an answer to the output
+replied : (called : Call) (answer : Reply) (old new : DeskState) → Enters called answer old new → IsReplyTo called answer
+replied (call.Link at inverter) (reply.Linked number) old new enters = tt
+replied (call.Link at inverter) _ old new enters = absurd enters.fits
+replied _ answer old new enters = tt
+
+arrived : (result : Result Frame NoFrame) → IsAnswerTo output.Receive (arrival result)
+arrived (Ok frame) = tt
+arrived (Err none.Quiet) = tt
+arrived (Err none.Closed) = tt
+arrived (Err none.RecvFailed) = tt
+arrived (Err (none.BadFrame fault)) = tt
+
+no_reading : (result : Result Frame NoFrame) → reading_in (arrival result) ≡ []
+no_reading (Ok frame) = refl
+no_reading (Err none.Quiet) = refl
+no_reading (Err none.Closed) = refl
+no_reading (Err none.RecvFailed) = refl
+no_reading (Err (none.BadFrame fault)) = refl
+
+-- what an output does to the desk and to the readings, and that what came answers it
+pub record Moves (output : Output) (came : Input) (old new : World) : Type 0 where
+  pub answers : IsAnswerTo output came
+  pub front : old.desk.front ≤ new.desk.front
+  pub inverters : new.desk.inverters ≡ old.desk.inverters
+  pub rolls : new.desk.rolls ≡ old.desk.rolls
+  pub readings : new.readings ≡ old.readings ++ reading_in came
+
+-- the desk stands still
+still : (output : Output) (came : Input) (old new : World) → IsAnswerTo output came → new.desk ≡ old.desk
+    → new.readings ≡ old.readings ++ reading_in came → Moves output came old new
+still output came old new answers is read =
+    let P : DeskState → Type 0 = λ desk. desk.front ≤ new.desk.front in
+    record {
+      answers = answers;
+      front = subst P is (omega arith);
+      inverters = ap (λ (d : DeskState). d.inverters) is;
+      rolls = ap (λ (d : DeskState). d.rolls) is;
+      readings = read;
+    }
+
+unread : (came : Input) (old new : World) → reading_in came ≡ [] → new.readings ≡ old.readings
+    → new.readings ≡ old.readings ++ reading_in came
+unread came old new none is = is ∙ sym (append-nil old.readings) ∙ ap (λ (t : List ℕ). old.readings ++ t) (sym none)
+
+quiet : (output : Output) (came : Input) (old new : World) → IsAnswerTo output came → reading_in came ≡ []
+    → EntersNone old.desk new.desk → new.readings ≡ old.readings → Moves output came old new
+quiet output came old new answers none enters is = record {
+  answers = answers;
+  front = enters.front;
+  inverters = enters.inverters;
+  rolls = enters.rolls;
+  readings = unread came old new none is;
+}
+
+entered : (called : Call) (answer : Reply) (output : Output) (came : Input) (old new : World) → IsAnswerTo output came → reading_in came ≡ []
+    → Enters called answer old.desk new.desk → new.readings ≡ old.readings → Moves output came old new
+entered called answer output came old new answers none enters is = record {
+  answers = answers;
+  front = enters.front;
+  inverters = enters.inverters;
+  rolls = enters.rolls;
+  readings = unread came old new none is;
+}
+
+desk_of : (old new : World) → new ≡ old → new.desk ≡ old.desk
+desk_of old new is = ap (λ (w : World). w.desk) is
+
+readings_of : (old new : World) → new ≡ old → new.readings ≡ old.readings
+readings_of old new is = ap (λ (w : World). w.readings) is
+
+pub moves : (job : Job) (output : Output) (came : Input) (old new : World) → IsDone job output came old new → Moves output came old new
+moves job output.Goal (input.Goal goal) old new done = quiet output.Goal (input.Goal goal) old new tt refl done.0 (readings_of _ new done.1)
+moves job output.Dial input.Dialed old new done = still output.Dial input.Dialed old new tt (desk_of _ new done) (unread input.Dialed old new refl (readings_of _ new done))
+moves job output.Dial input.DialFailed old new done =
+    still output.Dial input.DialFailed old new tt (desk_of _ new done.0) (unread input.DialFailed old new refl (readings_of _ new done.0))
+moves job output.Now (input.Time clock) old new done = still output.Now (input.Time clock) old new tt (desk_of _ new done.0) (readings_of _ new done.0)
+moves job (output.Call called) (input.Reply answer) old new done =
+    entered called answer (output.Call called) (input.Reply answer) old new (replied called answer old.desk new.desk done.0) refl done.0 (readings_of _ new done.1)
+moves job (output.Call called) input.Full old new done = quiet (output.Call called) input.Full old new tt refl done.0 (readings_of _ new done.1)
+moves job (output.Release write at) (input.Reply answer) old new done =
+    entered (back_of write at) answer (output.Release write at) (input.Reply answer) old new tt refl done.0 (readings_of _ new done.1)
+moves job (output.Release write at) input.Full old new done = quiet (output.Release write at) input.Full old new tt refl done.0 (readings_of _ new done.1)
+moves job (output.Send request clock) input.SentAll old new done =
+    still (output.Send request clock) input.SentAll old new tt (desk_of _ new done) (unread input.SentAll old new refl (readings_of _ new done))
+moves job (output.Send request clock) input.SendFailed old new done =
+    still (output.Send request clock) input.SendFailed old new tt (desk_of _ new done.0) (unread input.SendFailed old new refl (readings_of _ new done.0))
+moves job output.Receive came old new done =
+    let P : Input → Type 0 = λ came. IsAnswerTo output.Receive came in
+    still output.Receive came old new (subst P (sym done.1.is) (arrived done.1.result)) (desk_of _ new done.0)
+    (unread came old new (ap reading_in done.1.is ∙ no_reading done.1.result) (readings_of _ new done.0))
+moves job output.HangUp input.HungUp old new done = still output.HangUp input.HungUp old new tt (desk_of _ new done) (unread input.HungUp old new refl (readings_of _ new done))
+moves job (output.Rest ms) input.Rested old new done = still (output.Rest ms) input.Rested old new tt (desk_of old new done) (unread input.Rested old new refl (readings_of old new done))
+moves job output came old new done = absurd done
+
+pub answers : (job : Job) (output : Output) (came : Input) (old new : World) → IsDone job output came old new → IsAnswerTo output came
+answers job output came old new done = (moves job output came old new done).answers
+
+all_push : (P : RunStep → Type 0) (later : List RunStep) (one : RunStep) → AllByRecursion P later → P one → AllByRecursion P (later ++ one ∷ [])
+all_push P [] one all here = (here, tt)
+all_push P (first ∷ later) one all here = (all.0, all_push P later one all.1 here)
+
+all_map : (P Q : RunStep → Type 0) (later : List RunStep) → ((one : RunStep) → P one → Q one) → AllByRecursion P later → AllByRecursion Q later
+all_map P Q [] to all = tt
+all_map P Q (one ∷ later) to all = (to one all.0, all_map P Q later to all.1)
+
+pending-push : (first : Output) (later : List RunStep) (one : RunStep) → one.output ≡ pending first (later ++ one ∷ [])
+pending-push first [] one = refl
+pending-push first (next ∷ later) one = pending-push next.output later one
+
+done-push : (job : Job) (first : Output) (later : List RunStep) (one : RunStep) (old mid new : World) → AreDone job first later old mid
+    → IsDone job (pending first later) one.input mid new → AreDone job first (later ++ one ∷ []) old new
+done-push job first [] one old mid new before done =
+    let P : World → Type 0 = λ world. IsDone job first one.input world new in (new, subst P before done, refl)
+done-push job first (next ∷ later) one old mid new before done =
+    (before.0, before.1, done-push job next.output later one before.0 mid new before.2 done)
+
+fresh_first : (first : Output) (old : World) → IsFresh first old old
+fresh_first output.Goal old = refl
+fresh_first _ old = tt
+
+fresh_none : (next : Output) (old new : World) → IsNotGoal next → IsFresh next old new
+fresh_none output.Goal old new later = absurd later
+fresh_none _ old new later = tt
+
+-- what was told before is told still
+told_still : (may_tell may_tell_now : GoalTest) (was_full was_full_now : Type 0) (inverter : ℕ) (old mid new : DeskState) (came : Input)
+    → GoalsLast may_tell may_tell_now → (was_full → was_full_now) → mid.front ≤ new.front
+    → IsTold may_tell was_full inverter old mid came → IsTold may_tell_now was_full_now inverter old new came
+told_still may_tell may_tell_now was_full was_full_now inverter old mid new (input.Goal goal) goals full front told =
+    (told.0, told.1, omega (arith, told.2, front), goals (length old.made) told.0 inverter goal told.3)
+told_still may_tell may_tell_now was_full was_full_now inverter old mid new input.Full goals full front told = full told
+told_still may_tell may_tell_now was_full was_full_now inverter old mid new _ goals full front told = tt
+
+not_arrived : (goal : Goal) (result : Result Frame NoFrame) → input.Goal goal ≡ arrival result → ⊥
+not_arrived goal (Ok frame) is = cc
+not_arrived goal (Err none.Quiet) is = cc
+not_arrived goal (Err none.Closed) is = cc
+not_arrived goal (Err none.RecvFailed) is = cc
+not_arrived goal (Err (none.BadFrame fault)) is = cc
+
+-- a goal that came just now is told at the front
+told_goal : (job : Job) (last : Output) (may_tell : GoalTest) (was_full : Type 0) (inverter : ℕ) (goal : Goal) (old mid new : World) → IsFresh last old mid
+    → IsDone job last (input.Goal goal) mid new → IsToldNow may_tell was_full inverter new.desk (input.Goal goal)
+    → IsTold may_tell was_full inverter old.desk new.desk (input.Goal goal)
+told_goal job output.Goal may_tell was_full inverter goal old mid new fresh done told =
+    let P : World → Type 0 = λ world. world.desk.front ≤ new.desk.front in
+    let Q : ℕ → Type 0 = λ n. may_tell n new.desk.front inverter goal in
+    let made : length new.desk.made ≡ length old.desk.made = ap length done.0.made ∙ ap (λ (w : World). length w.desk.made) fresh in
+    (new.desk.front, subst P fresh done.0.front, omega arith, subst Q made told)
+told_goal job output.Receive may_tell was_full inverter goal old mid new fresh done told = absurd (not_arrived goal done.1.result done.1.is)
+told_goal job _ may_tell was_full inverter goal old mid new fresh done told = absurd done
+
+told_now : (job : Job) (last : Output) (came : Input) (may_tell : GoalTest) (was_full : Type 0) (inverter : ℕ) (old mid new : World) → IsFresh last old mid
+    → IsDone job last came mid new → IsToldNow may_tell was_full inverter new.desk came → IsTold may_tell was_full inverter old.desk new.desk came
+told_now job last (input.Goal goal) may_tell was_full inverter old mid new fresh done told =
+    told_goal job last may_tell was_full inverter goal old mid new fresh done told
+told_now job last input.Full may_tell was_full inverter old mid new fresh done told = told
+told_now job last _ may_tell was_full inverter old mid new fresh done told = tt
+
+-- at first nothing is done
+pub at_first : (may_tell : GoalTest) (was_full : Type 0) (job : Job) (begun : State) (first : Output) (logged : List Sent) (old : World)
+    → Stands job begun.step first → (from : State) (came : Input) → table job from came ≡ Some (begun, first)
+    → Follows may_tell was_full job begun first [] begun first logged logged old old
+at_first may_tell was_full job begun first logged old stands from came is = record {
+  within = tt;
+  leads = refl;
+  pending = refl;
+  done = refl;
+  log = sym (append-nil logged);
+  readings = sym (append-nil old.readings);
+  told = tt;
+  stands = stands;
+  fresh = fresh_first first old;
+  reached = (from, came, is);
+  memory = λ _. refl;
+  front = omega arith;
+  inverters = refl;
+  rolls = refl;
+}
+
+-- one output more is done
+pub one_more : (may_tell may_tell_now : GoalTest) (was_full was_full_now : Type 0) (job : Job) (begun : State) (first : Output) (later : List RunStep)
+    (state next : State) (last following : Output) (came : Input) (logged log_mid log_now : List Sent) (old mid new : World)
+    → Follows may_tell was_full job begun first later state last logged log_mid old mid
+    → IsDone job last came mid new → table job state came ≡ Some (next, following)
+    → GoalsLast may_tell may_tell_now → (was_full → was_full_now) → IsToldNow may_tell_now was_full_now job.inverter new.desk came
+    → log_now ≡ log_mid ++ sends_of following
+    → Follows may_tell_now was_full_now job begun first (later ++ record { state = state; input = came; output = following } ∷ []) next following logged log_now old new
+one_more may_tell may_tell_now was_full was_full_now job begun first later state next last following came logged log_mid log_now old mid new follows done is goals full told noted =
+    let one : RunStep = record { state = state; input = came; output = following } in
+    let does = moves job last came mid new done in
+    let goes : Led job last came state.step next following = led job state next last following came mid new follows.stands done is in
+    let P : Output → Type 0 = λ output. IsDone job output came mid new in
+    record {
+      within = all_push IsWithinTurn later one follows.within (not_ready job state.step last came mid new follows.stands done);
+      leads = LeadsTo-push job begun state next later came following follows.leads is;
+      pending = pending-push first later one;
+      done = done-push job first later one old mid new follows.done (subst P follows.pending done);
+      log = noted ∙ ap (λ (t : List Sent). t ++ sends_of following) follows.log ∙ append_assoc logged (log later) (sends_of following)
+          ∙ ap (λ (t : List Sent). logged ++ (log later ++ t)) (sym (append-nil (sends_of following)))
+          ∙ ap (λ (t : List Sent). logged ++ t) (sym (flat_map-append (λ (one : RunStep). sends_of one.output) later (one ∷ [])));
+      readings = does.readings ∙ ap (λ (t : List ℕ). t ++ reading_in came) follows.readings ∙ append_assoc old.readings (readings later) (reading_in came)
+          ∙ ap (λ (t : List ℕ). old.readings ++ (readings later ++ t)) (sym (append-nil (reading_in came)))
+          ∙ ap (λ (t : List ℕ). old.readings ++ t) (sym (flat_map-append (λ (one : RunStep). reading_in one.input) later (one ∷ [])));
+      told = all_push (λ one. IsTold may_tell_now was_full_now job.inverter old.desk new.desk one.input) later one
+          (all_map (λ one. IsTold may_tell was_full job.inverter old.desk mid.desk one.input) (λ one. IsTold may_tell_now was_full_now job.inverter old.desk new.desk one.input) later
+          (λ one. told_still may_tell may_tell_now was_full was_full_now job.inverter old.desk mid.desk new.desk one.input goals full does.front) follows.told)
+          (told_now job last came may_tell_now was_full_now job.inverter old mid new follows.fresh done told);
+      stands = goes.stands;
+      fresh = fresh_none following old new goes.later;
+      reached = (state, came, is);
+      memory = λ short. let Q : Step → Type 0 = λ step. IsNotNoMemory step in absurd (subst Q short goes.memory);
+      front = omega (arith, follows.front, does.front);
+      inverters = does.inverters ∙ follows.inverters;
+      rolls = does.rolls ∙ follows.rolls;
+    }

@@ -1,0 +1,79 @@
+-- A whole turn, from its begin.
+use Rattle.std.proofs.Common.{◌≡◌, ℕ, ◌+◌, ◌≤◌, Bool, true, false, cond, eqb, List, [], ◌∷◌, ◌++◌, length, ◌⊎◌, inl, inr, Option, Some, None, refl, sym, ap, subst, ◌∙◌, arith, append-nil}
+use Rattle.std.specs.Prelude.{IsSome}
+use Rattle.ledger_desk.specs.Desk.{GoalTest}
+use Rattle.inverter_worker.specs.declared.job.Job.{Job}
+use Rattle.inverter_worker.specs.declared.input.Input.{Input}
+use Rattle.inverter_worker.specs.declared.input.Input.TheVariants as input
+use Rattle.inverter_worker.specs.declared.output.Output.{Output}
+use Rattle.inverter_worker.specs.declared.output.Output.TheVariants as output
+use Rattle.inverter_worker.specs.declared.output.Sent.{Sent}
+use Rattle.inverter_worker.specs.declared.state.State.{State}
+use Rattle.inverter_worker.specs.declared.state.End.{End}
+use Rattle.inverter_worker.specs.declared.state.End.TheVariants as over
+use Rattle.inverter_worker.specs.declared.state.Step.{Step}
+use Rattle.inverter_worker.specs.declared.state.Step.TheVariants.{Ready, Aiming, Over}
+use Rattle.inverter_worker.specs.Table.{row, table, HasRow}
+use Rattle.inverter_worker.specs.Runs.{RunStep, LeadsTo, log, sends_of}
+use Rattle.inverter_worker.specs.Turns.{reading_in, readings, IsShort}
+use Rattle.inverter_worker.proofs.Turns.{short}
+use Rattle.worker_turn.specs.Doing.{World, AreDone}
+use Rattle.worker_turn.specs.Worker.{WorkerRecord, IsBegin, IsBetweenTurns, IsTurn}
+use Rattle.worker_turn.specs.Acts.{Begins}
+use Rattle.worker_turn.specs.Turning.{GoesOn}
+
+no_reading : (came : Input) → IsBegin came → reading_in came ≡ []
+no_reading came (inl is) = ap reading_in is
+no_reading came (inr is) = ap reading_in is
+
+nothing_sent : (job : Job) (step : Step) (put : Output) → Begins job step put → sends_of put ≡ []
+nothing_sent job Aiming output.Goal begins = refl
+nothing_sent job (Over end) output.End begins = refl
+nothing_sent job _ _ begins = absurd begins
+
+pub whole : (may_tell : GoalTest) (was_full : Type 0) (before after : WorkerRecord) (begun : State) (put : Output) (came : Input) (old new : World)
+    → IsBegin came → table before.job before.state came ≡ Some (begun, put) → Begins before.job begun.step put → old.readings ≡ []
+    → GoesOn may_tell was_full before.job begun put after.state before.log after.log old new
+    → IsTurn may_tell was_full before after old new
+whole may_tell was_full before after begun put came old new by is begins none goes =
+    let first : RunStep = record { state = before.state; input = came; output = put } in
+    let follows = goes.follows in
+    record {
+      first = first;
+      later = goes.later;
+      begins = by;
+      within = follows.within;
+      leads = (refl, (begun, (is, follows.leads)));
+      done = follows.done;
+      log = follows.log ∙ ap (λ (t : List Sent). before.log ++ (t ++ log goes.later)) (sym (nothing_sent before.job begun.step put begins));
+      readings = follows.readings ∙ ap (λ (t : List ℕ). t ++ readings goes.later) none
+          ∙ ap (λ (t : List ℕ). t ++ readings goes.later) (sym (no_reading came by));
+      told = follows.told;
+    }
+
+-- it reads the clock at most 6 times
+pub few : (may_tell : GoalTest) (was_full : Type 0) (before after : WorkerRecord) (old new : World) → IsTurn may_tell was_full before after old new
+    → length new.readings ≤ 6
+few may_tell was_full before after old new turn =
+    let brief : IsShort (turn.first ∷ turn.later) = short before.job before.state after.state turn.first turn.later turn.leads turn.within in
+    omega (arith, brief.clock, ap length turn.readings)
+
+unchanged : (job : Job) (put : Output) (later : List RunStep) (old new : World) → later ≡ [] → AreDone job put later old new → new ≡ old
+unchanged job put [] old new none done = done
+unchanged job put (one ∷ later) old new none done = absurd cc
+
+unlogged : (logged log_now : List Sent) (later : List RunStep) → later ≡ [] → log_now ≡ logged ++ log later → log_now ≡ logged
+unlogged logged log_now later none is = is ∙ ap (λ (t : List RunStep). logged ++ log t) none ∙ append-nil logged
+
+-- where it found no memory it did nothing
+pub idle : (may_tell : GoalTest) (was_full : Type 0) (job : Job) (begun state : State) (put : Output) (logged log_now : List Sent) (old new : World)
+    → GoesOn may_tell was_full job begun put state logged log_now old new → state.step ≡ Over over.NoMemory → (log_now ≡ logged) × (new ≡ old)
+idle may_tell was_full job begun state put logged log_now old new goes is =
+    let none = goes.follows.memory is in
+    (unlogged logged log_now goes.later none goes.follows.log, unchanged job put goes.later old new none goes.follows.done)
+
+-- a worker that isn't over is ready
+pub between : (step : Step) → IsBetweenTurns step → ((end : End) → step ≡ Over end → ⊥) → step ≡ Ready
+between Ready is not = refl
+between (Over end) is not = absurd (not end refl)
+between _ is not = absurd is

@@ -1,0 +1,28 @@
+use Rattle.std.proofs.Common.{◌≡◌, ℕ, ◌+◌, ◌<◌, ◌≤◌, List, length}
+use Rattle.std.specs.Prelude.{vec_len, vec_capacity}
+use Rattle.inverter_worker.specs.Runs.{RunStep}
+use Rattle.inverter_worker.proofs.Turns.{steps_left, clock_left, requests_left}
+use Rattle.worker_turn.specs.Doing.{world_of}
+use Rattle.worker_turn.specs.Desks.{TestsLast}
+use Rattle.worker_turn.specs.Acts.{held}
+use Rattle.worker_turn.specs.Turning.{Follows}
+use Rattle.worker_turn.proofs.turning.go_on.Given as goal
+
+-- some outputs are done, and there is room for what may be read of the clock and be sent
+abbrev pub invariant-loop-output : goal.invariant-loop-output
+invariant-loop-output g l = record {
+  later : List RunStep;
+  follows : Follows (g.D.Desk.may_tell l.desk) (g.D.Desk.was_full l.desk) l.job l.fn.begun.0 l.fn.begun.1 later l.state l.output l.fn.log.items l.log.items
+      (world_of (g.D.Desk.state l.fn.desk) (g.N.Dialer.links l.fn.dialer) (g.N.Dialer.faults l.fn.dialer) l.fn.watch.readings l.fn.inbox)
+      (world_of (g.D.Desk.state l.desk) (g.N.Dialer.links l.dialer) (g.N.Dialer.faults l.dialer) l.watch.readings l.inbox);
+  last : TestsLast (g.D.Desk.may_tell l.fn.desk) (g.D.Desk.may_tell l.desk) (g.D.Desk.was_full l.fn.desk) (g.D.Desk.was_full l.desk)
+      (g.D.Desk.ended l.fn.desk) (g.D.Desk.ended l.desk) (g.D.Desk.was_full_life l.fn.desk) (g.D.Desk.was_full_life l.desk);
+  ticket : l.ticket ≡ held l.state.step;
+  clock : l.watch.clock ≡ l.fn.watch.clock;
+  readings : length l.watch.readings + clock_left l.state.step ≤ 6;
+  room : 0 < requests_left l.state.step → vec_len l.log + requests_left l.state.step ≤ vec_capacity l.log;
+}
+
+-- each row leaves fewer steps of a turn
+abbrev pub decreases-loop-output : goal.decreases-loop-output
+decreases-loop-output g l = steps_left l.state.skipped l.state.step

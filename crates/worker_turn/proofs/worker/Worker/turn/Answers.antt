@@ -1,0 +1,50 @@
+use Rattle.std.proofs.Common.{◌≡◌, ◌≤◌, ℕ, List, length, refl, sym, ap, subst, ◌∙◌}
+use Rattle.inverter_worker.specs.declared.output.Sent.{Sent}
+use Rattle.inverter_worker.specs.declared.state.Step.TheVariants.{Ready}
+use Rattle.worker_turn.specs.Doing.{World, world_of}
+use Rattle.worker_turn.specs.Worker.{WorkerRecord, IsTurn}
+use Rattle.worker_turn.specs.Turning.{GoesOn}
+use Rattle.worker_turn.proofs.Turn.{between, whole, few, idle}
+use Rattle.worker_turn.proofs.worker.Worker.turn.Goals as goal
+
+pub returns : goal.returns
+returns g c =
+    let inside = c.self.inside in
+    let view = c.self.view_is in
+    let before : WorkerRecord = record { job = inside.job; state = inside.state; log = inside.log.items; unread = inside.inbox } in
+    let after : WorkerRecord =
+    record { job = inside.job; state = c.go_on-state.result; log = c.go_on-state.new.log.items; unread = c.go_on-state.new.inbox } in
+    let may_tell = g.D.Desk.may_tell c.go_on-state.new.desk in
+    let was_full = g.D.Desk.was_full c.go_on-state.new.desk in
+    let desk = g.D.Desk.state c.args.desk.now in
+    let links = g.N.Dialer.links c.args.dialer.now in
+    let faults = g.N.Dialer.faults c.args.dialer.now in
+    let readings = c.args.watch.now.readings in
+    let old : World = world_of desk links faults readings inside.inbox in
+    let new : World =
+    world_of (g.D.Desk.state c.go_on-state.new.desk) (g.N.Dialer.links c.go_on-state.new.dialer) (g.N.Dialer.faults c.go_on-state.new.dialer)
+    c.go_on-state.new.watch.readings c.go_on-state.new.inbox in
+    let begun = c.begin-begun.result in
+    let P : List Sent → Type 0 = λ logged. GoesOn may_tell was_full before.job begun.0 begun.1 after.state logged after.log old new in
+    let goes : GoesOn may_tell was_full before.job begun.0 begun.1 after.state before.log after.log old new =
+    subst P c.begin-begun.ensures.items c.go_on-state.ensures.turn in
+    let ready : inside.state.step ≡ Ready = between inside.state.step c.self.invariant.1 c.in_default.not-Over in
+    let row = c.begin-begun.ensures.row in
+    let turn : IsTurn may_tell was_full before after old new =
+    whole may_tell was_full before after begun.0 begun.1 row.0 old new row.1 row.2 c.begin-begun.ensures.begins c.requires.readings goes in
+    let Q : WorkerRecord → Type 0 = λ worker. IsTurn may_tell was_full worker after (world_of desk links faults readings worker.unread) new in
+    record {
+      answer = c.turned.ensures;
+      job = ap (λ (w : WorkerRecord). w.job) view;
+      turn = λ _. subst Q view turn;
+      few = few may_tell was_full before after old new turn;
+      memory = λ short. let i = idle may_tell was_full before.job begun.0 after.state begun.1 before.log after.log old new goes short in (
+        i.0 ∙ ap (λ (w : WorkerRecord). w.log) view,
+        i.1 ∙ ap (λ (w : WorkerRecord). world_of desk links faults readings w.unread) view,
+      );
+      over = λ end is. absurd (c.in_default.not-Over end (ap (λ (w : WorkerRecord). w.state.step) view ∙ is));
+      rolls = goes.follows.rolls;
+      inverters = goes.follows.inverters;
+      last = c.go_on-state.ensures.last;
+      clock = c.go_on-state.ensures.clock;
+    }

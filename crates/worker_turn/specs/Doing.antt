@@ -1,0 +1,93 @@
+-- What it is to do an output, and which input comes of it: what the ledger, the links, the clock and the unread
+-- bytes are before and after.
+use Rattle.std.specs.Prelude.{◌≡◌, ℕ, ◌≤◌, List, [], ◌∷◌, ◌++◌, Option, Result, Ok, Err, option_map}
+use Rattle.world_traits.specs.Causes.{Rose}
+use Rattle.world_traits.specs.Clocks.{moment_max}
+use Rattle.world_traits.specs.Links.{Links, IsCutShort, after_hang_up, with_bytes, with_link}
+use Rattle.plant_ledger.specs.Release.{back_of}
+use Rattle.ledger_desk.specs.Desk.{DeskState, EntersNone, Enters}
+use Rattle.mbap_frames.specs.declared.frame.Frame.{Frame}
+use Rattle.mbap_frames.specs.Frame.{frame_spelling}
+use Rattle.readback.specs.Frames.{write_frame, read_frame}
+use Rattle.frame_inbox.specs.declared.inbox.NoFrame.{NoFrame}
+use Rattle.frame_inbox.specs.declared.inbox.NoFrame.TheVariants as none
+use Rattle.frame_inbox.specs.Waiting.{Waits, Counts}
+use Rattle.inverter_worker.specs.declared.job.Job.{Job}
+use Rattle.inverter_worker.specs.declared.input.Input.{Input}
+use Rattle.inverter_worker.specs.declared.input.Input.TheVariants as input
+use Rattle.inverter_worker.specs.declared.output.Output.{Output}
+use Rattle.inverter_worker.specs.declared.output.Output.TheVariants as output
+use Rattle.inverter_worker.specs.declared.output.Asked.{Asked}
+use Rattle.inverter_worker.specs.declared.output.Asked.TheVariants as asked
+use Rattle.inverter_worker.specs.Runs.{RunStep}
+
+-- What a worker reaches: its desk, the record of its dialer's links where that is told, the dialer's count of faults,
+-- what was read of the clock in this turn, and the bytes that came on the link and weren't handed out as frames.
+pub record World : Type 0 where
+  pub desk : DeskState
+  pub links : Option Links
+  pub faults : ℕ
+  pub readings : List ℕ
+  pub unread : List ℕ
+
+abbrev pub world_of : DeskState → Option Links → (faults : ℕ) → (readings unread : List ℕ) → World
+world_of desk links faults readings unread =
+    record { desk = desk; links = links; faults = faults; readings = readings; unread = unread }
+
+-- the frame of a request
+abbrev pub request_frame : Job → Asked → Frame
+request_frame job (asked.Write write) = write_frame write job.unit job.port job.rules
+request_frame job (asked.Read read) = read_frame read job.port
+
+-- only the desk has changed
+abbrev pub DeskAlone : (DeskState → DeskState → Type 0) → World → World → Type 0
+DeskAlone Changes old new = Changes old.desk new.desk × (new ≡ record old { desk = new.desk })
+
+-- what came of a wait for a frame, as an input
+abbrev pub arrival : Result Frame NoFrame → Input
+arrival (Ok frame) = input.Frame frame
+arrival (Err none.Quiet) = input.Quiet
+arrival (Err none.Closed) = input.Closed
+arrival (Err none.RecvFailed) = input.RecvFailed
+arrival (Err (none.BadFrame fault)) = input.BadFrame
+
+-- A wait for a frame: pieces were received, and behind them a frame stood first in the unread bytes, or a fault; or
+-- the unread bytes were still less than a frame, and the next receive gave none.
+pub record IsCome (came : Input) (old new : World) : Type 0 where
+  pub result : Result Frame NoFrame
+  pub is : came ≡ arrival result
+  pub waits : Waits result old.unread new.unread old.links new.links
+  pub counts : Counts result old.faults new.faults
+
+-- An output was done, and this input came of it.
+abbrev pub IsDone : Job → Output → Input → World → World → Type 0
+IsDone job output.Goal (input.Goal goal) old new = DeskAlone EntersNone old new
+IsDone job output.Dial input.Dialed old new =
+    new ≡ record old { links = option_map (with_link job.port.host job.port.port) old.links; unread = [] }
+IsDone job output.Dial input.DialFailed old new =
+    (new ≡ record old { faults = new.faults }) × Rose old.faults new.faults
+IsDone job output.Now (input.Time clock) old new =
+    (new ≡ record old { readings = old.readings ++ clock ∷ [] }) × (clock ≤ moment_max)
+IsDone job (output.Call call) (input.Reply reply) old new = DeskAlone (Enters call reply) old new
+IsDone job (output.Call call) input.Full old new = DeskAlone EntersNone old new
+IsDone job (output.Release write at) (input.Reply reply) old new =
+    DeskAlone (Enters (back_of write at) reply) old new
+IsDone job (output.Release write at) input.Full old new = DeskAlone EntersNone old new
+IsDone job (output.Send request clock) input.SentAll old new =
+    new ≡ record old { links = option_map (with_bytes (frame_spelling (request_frame job request))) old.links }
+IsDone job (output.Send request clock) input.SendFailed old new =
+    (new ≡ record old { links = new.links; faults = new.faults })
+    × IsCutShort (frame_spelling (request_frame job request)) old.links new.links × Rose old.faults new.faults
+IsDone job output.Receive came old new =
+    (new ≡ record old { links = new.links; faults = new.faults; unread = new.unread }) × IsCome came old new
+IsDone job output.HangUp input.HungUp old new =
+    new ≡ record old { links = option_map after_hang_up old.links; unread = [] }
+IsDone job (output.Rest ms) input.Rested old new = new ≡ old
+IsDone job output came old new = ⊥
+
+-- An output was done, and then those of these steps, each with the input of the next step. What the last one puts out
+-- is not done yet.
+abbrev pub AreDone : Job → Output → List RunStep → World → World → Type 0
+AreDone job output [] old new = new ≡ old
+AreDone job output (next ∷ later) old new =
+    (between : World) × IsDone job output next.input old between × AreDone job next.output later between new

@@ -1,0 +1,89 @@
+//! What is done with the ledger and with the clock.
+ghost use Rattle.std.specs.Prelude.{◌≡◌, ◌<◌, ◌≤◌, Some, length};
+ghost use Rattle.world_traits.specs.Clocks.{moment_max, readings_max};
+ghost use Rattle.plant_ledger.specs.Opening.{ticket_for};
+ghost use Rattle.worker_turn.specs.Doing.{World, IsDone};
+ghost use Rattle.worker_turn.specs.Desks.{IsPlain, IsToldNow, TestsLast};
+ghost use Rattle.worker_turn.specs.Acts.{IsOwnCall, ticket_after};
+
+use inverter_worker::{Input, Job, Output};
+use ledger_desk::Desk;
+use plant_book::Call;
+use plant_ledger::Ticket;
+use world_traits::{Clock, Watch};
+
+/// What came of an output, and the ticket that is in hand then.
+#[derive(Drop)]
+pub(crate) struct Came {
+    pub(crate) input: Input,
+    pub(crate) ticket: Option<Ticket>,
+}
+
+/// Asks the ledger for the goal.
+pub(crate) fn ask_goal<D: Desk>(job: &Job, desk: &mut D) -> Input
+    requires { job.now.inverter < (D.state desk.old).inverters }
+    ensures done { (rest : World) → IsDone job.now Output.Goal result
+        (record rest { desk = D.state desk.old }) (record rest { desk = D.state desk.new }) }
+    ensures told { IsToldNow (D.may_tell desk.new) (D.was_full desk.new) job.now.inverter (D.state desk.new) result }
+    ensures last { TestsLast (D.may_tell desk.old) (D.may_tell desk.new) (D.was_full desk.old) (D.was_full desk.new)
+        (D.ended desk.old) (D.ended desk.new) (D.was_full_life desk.old) (D.was_full_life desk.new) }
+{
+    Input::Goal(desk.goal(job.inverter))
+}
+
+/// Makes a call on the ledger.
+pub(crate) fn make_call<D: Desk>(
+    job: &Job,
+    call: Call,
+    ticket: Option<Ticket>,
+    desk: &mut D,
+) -> Came
+    requires of_desk { job.now.inverter < (D.state desk.old).inverters }
+    requires own { IsOwnCall job.now call }
+    ensures done { (rest : World) → IsDone job.now (Output.Call call) result.input
+        (record rest { desk = D.state desk.old }) (record rest { desk = D.state desk.new }) }
+    ensures told { IsToldNow (D.may_tell desk.new) (D.was_full desk.new) job.now.inverter (D.state desk.new)
+        result.input }
+    ensures last { TestsLast (D.may_tell desk.old) (D.may_tell desk.new) (D.was_full desk.old) (D.was_full desk.new)
+        (D.ended desk.old) (D.ended desk.new) (D.was_full_life desk.old) (D.was_full_life desk.new) }
+    ensures ticket { result.ticket ≡ ticket_after (Output.Call call) result.input ticket }
+{
+    match desk.call(call) {
+        Ok(outcome) => Came {
+            input: Input::Reply(outcome.reply),
+            ticket: outcome.ticket,
+        },
+        Err(_) => Came {
+            input: Input::Full,
+            ticket,
+        },
+    }
+}
+
+/// Gives back a write that wasn't sent, at this moment in ms.
+pub(crate) fn give_back<D: Desk>(job: &Job, ticket: Ticket, at: u64, desk: &mut D) -> Input
+    requires of_desk { job.now.inverter < (D.state desk.old).inverters }
+    requires own { ticket.inverter ≡ job.now.inverter }
+    requires moment { at ≤ moment_max }
+    ensures done { (rest : World) → IsDone job.now (Output.Release ticket at) result
+        (record rest { desk = D.state desk.old }) (record rest { desk = D.state desk.new }) }
+    ensures told { IsToldNow (D.may_tell desk.new) (D.was_full desk.new) job.now.inverter (D.state desk.new) result }
+    ensures last { TestsLast (D.may_tell desk.old) (D.may_tell desk.new) (D.was_full desk.old) (D.was_full desk.new)
+        (D.ended desk.old) (D.ended desk.new) (D.was_full_life desk.old) (D.was_full_life desk.new) }
+{
+    match desk.release(ticket, at) {
+        Ok(reply) => Input::Reply(reply),
+        Err(_) => Input::Full,
+    }
+}
+
+/// Reads the clock.
+pub(crate) fn read_clock<K: Clock>(job: &Job, watch: &mut Watch<'_, K>) -> Input
+    requires { length watch.old.readings < readings_max }
+    ensures done { (rest : World) → IsDone job.now Output.Now result
+        (record rest { readings = watch.old.readings }) (record rest { readings = watch.new.readings }) }
+    ensures plain { IsPlain result }
+    ensures clock { watch.new.clock ≡ watch.old.clock }
+{
+    Input::Time(watch.now())
+}

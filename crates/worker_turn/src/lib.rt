@@ -1,0 +1,18 @@
+//! One turn of a worker: it does what the table of `inverter_worker` puts out, one output after another, with a desk, a
+//! dialer and a clock, and hands the table what came of each.
+//!
+//! What a turn is stands in `specs/Worker.antt`, and what it is to do an output in `specs/Doing.antt`.
+#![tactic(auto)]
+
+mod begin;
+mod desk_acts;
+mod laws;
+mod link_acts;
+mod perform;
+mod turning;
+mod worker;
+
+pub use laws::{
+    calls_are_entered, failures_are_counted, frames_are_read_in_order, links_are_the_jobs,
+};
+pub use worker::{Turned, Worker};

@@ -1,0 +1,67 @@
+//! One output of the table is done.
+ghost use Rattle.std.specs.Prelude.{◌≡◌, ◌<◌, ◌≤◌, length};
+ghost use Rattle.world_traits.specs.Clocks.{readings_max};
+ghost use Rattle.worker_turn.specs.Doing.{IsDone, world_of};
+ghost use Rattle.worker_turn.specs.Desks.{IsToldNow, TestsLast};
+ghost use Rattle.worker_turn.specs.Acts.{IsDoable, ticket_after};
+
+use crate::desk_acts::{Came, ask_goal, give_back, make_call, read_clock};
+use crate::link_acts::{make_link, send_request, take_down, wait_for_frame};
+use frame_inbox::Inbox;
+use inverter_worker::{Input, Job, Output};
+use ledger_desk::Desk;
+use plant_ledger::Ticket;
+use world_traits::{Clock, Dialer, Watch};
+
+/// Does an output with the ticket in hand.
+pub(crate) fn perform<D: Desk, N: Dialer, K: Clock>(
+    job: &Job,
+    output: Output,
+    ticket: Option<Ticket>,
+    inbox: &mut Inbox,
+    desk: &mut D,
+    dialer: &mut N,
+    watch: &mut Watch<'_, K>,
+) -> Came
+    requires base { job.now.port.base ≤ 65514 }
+    requires of_desk { job.now.inverter < (D.state desk.old).inverters }
+    requires doable { IsDoable job.now output ticket }
+    requires readings { length watch.old.readings < readings_max }
+    ensures done { IsDone job.now output result.input
+        (world_of (D.state desk.old) (N.links dialer.old) (N.faults dialer.old) watch.old.readings inbox.old)
+        (world_of (D.state desk.new) (N.links dialer.new) (N.faults dialer.new) watch.new.readings inbox.new) }
+    ensures told { IsToldNow (D.may_tell desk.new) (D.was_full desk.new) job.now.inverter (D.state desk.new)
+        result.input }
+    ensures last { TestsLast (D.may_tell desk.old) (D.may_tell desk.new) (D.was_full desk.old) (D.was_full desk.new)
+        (D.ended desk.old) (D.ended desk.new) (D.was_full_life desk.old) (D.was_full_life desk.new) }
+    ensures ticket { result.ticket ≡ ticket_after output result.input ticket }
+    ensures clock { watch.new.clock ≡ watch.old.clock }
+{
+    match output {
+        Output::Goal => came(ask_goal(job, desk), ticket),
+        Output::Dial => came(make_link(job, inbox, dialer), ticket),
+        Output::Now => came(read_clock(job, watch), ticket),
+        Output::Call(call) => make_call(job, call, ticket, desk),
+        Output::Release(_, at) => match ticket {
+            Some(ticket) => came(give_back(job, ticket, at, desk), None),
+            None => unreachable!(),
+        },
+        Output::Send(request, clock) => {
+            came(send_request(job, request, clock, ticket, dialer), None)
+        }
+        Output::Receive => came(wait_for_frame(job, inbox, dialer), ticket),
+        Output::HangUp => came(take_down(job, inbox, dialer), ticket),
+        Output::Rest(ms) => {
+            watch.rest(u64::from(ms));
+            came(Input::Rested, ticket)
+        }
+        Output::End | Output::Nothing => unreachable!(),
+    }
+}
+
+fn came(input: Input, ticket: Option<Ticket>) -> Came
+    ensures input { result.input ≡ input }
+    ensures ticket { result.ticket ≡ ticket }
+{
+    Came { input, ticket }
+}

@@ -1,0 +1,79 @@
+//! A turn is gone through, one output after another.
+ghost use Rattle.std.specs.Prelude.{◌≡◌, ◌<◌, ◌≤◌, ◌+◌, ◌++◌, ℕ, [], length, vec_len, vec_capacity, Some};
+ghost use Rattle.inverter_worker.specs.declared.state.State.{State as Record};
+ghost use Rattle.inverter_worker.specs.declared.input.Input.{Input as Cause};
+ghost use Rattle.inverter_worker.specs.declared.output.Output.TheVariants.{Send};
+ghost use Rattle.inverter_worker.specs.declared.output.Asked.{Asked as Request};
+ghost use Rattle.inverter_worker.specs.Table.{HasRow, table};
+ghost use Rattle.inverter_worker.specs.Runs.{sends_of};
+ghost use Rattle.worker_turn.specs.Doing.{world_of};
+ghost use Rattle.worker_turn.specs.Desks.{TestsLast};
+ghost use Rattle.worker_turn.specs.Acts.{Begins, is_last};
+ghost use Rattle.worker_turn.specs.Turning.{GoesOn};
+
+use crate::perform::perform;
+use frame_inbox::Inbox;
+use inverter_worker::{Input, Job, Output, Sent, State, worker_step};
+use ledger_desk::Desk;
+use world_traits::{Clock, Dialer, Watch};
+
+/// Does an output and all that follow it in the turn, and answers where the worker stands then.
+pub(crate) fn go_on<D: Desk, N: Dialer, K: Clock>(
+    job: &Job,
+    begun: (State, Output),
+    log: &mut Vec<Sent>,
+    inbox: &mut Inbox,
+    desk: &mut D,
+    dialer: &mut N,
+    watch: &mut Watch<'_, K>,
+) -> State
+    requires base { job.now.port.base ≤ 65514 }
+    requires of_desk { job.now.inverter < (D.state desk.old).inverters }
+    requires begun { Begins job.now begun.0.step begun.1 }
+    requires reached { (from : Record) × (came : Cause) × (table job.now from came ≡ Some (begun.0, begun.1)) }
+    requires room { begun.1 ≡ Output.Goal → vec_len log.old + 2 ≤ vec_capacity log.old }
+    requires readings { watch.old.readings ≡ [] }
+    ensures turn { GoesOn (D.may_tell desk.new) (D.was_full desk.new) job.now begun.0 begun.1 result
+        log.old.items log.new.items
+        (world_of (D.state desk.old) (N.links dialer.old) (N.faults dialer.old) watch.old.readings inbox.old)
+        (world_of (D.state desk.new) (N.links dialer.new) (N.faults dialer.new) watch.new.readings inbox.new) }
+    ensures last { TestsLast (D.may_tell desk.old) (D.may_tell desk.new) (D.was_full desk.old) (D.was_full desk.new)
+        (D.ended desk.old) (D.ended desk.new) (D.was_full_life desk.old) (D.was_full_life desk.new) }
+    ensures clock { watch.new.clock ≡ watch.old.clock }
+{
+    let (mut state, mut output) = begun;
+    let mut ticket = None;
+    while !is_last(&output) {
+        let came = perform(job, output, ticket, inbox, desk, dialer, watch);
+        ticket = came.ticket;
+        (state, output) = next(job, state, came.input, log);
+    }
+    state
+}
+
+/// Whether an output is nothing to be done.
+fn is_last(output: &Output) -> bool
+    ensures { result ≡ is_last output.now }
+{
+    matches!(output, Output::End | Output::Nothing)
+}
+
+/// What follows on an input. A request that is to be sent is noted.
+fn next(job: &Job, state: State, came: Input, log: &mut Vec<Sent>) -> (State, Output)
+    requires base { job.now.port.base ≤ 65514 }
+    requires row { HasRow job.now state came }
+    requires room { (next : Record) (request : Request) (clock : ℕ)
+        → table job.now state came ≡ Some (next, Send request clock) → vec_len log.old < vec_capacity log.old }
+    ensures row { table job.now state came ≡ Some result }
+    ensures noted { log.new.items ≡ log.old.items ++ sends_of result.1 }
+    ensures len { vec_len log.new ≡ vec_len log.old + length (sends_of result.1) }
+    ensures capacity { vec_capacity log.old ≤ vec_capacity log.new }
+{
+    let (next, output) = worker_step(job, state, came);
+    if let Output::Send(request, clock) = output
+        && log.push(Sent { request, clock }).is_err()
+    {
+        unreachable!()
+    }
+    (next, output)
+}

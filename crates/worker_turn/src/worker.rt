@@ -1,0 +1,130 @@
+ghost use Rattle.std.specs.Prelude.{◌≡◌, ◌<◌, ◌≤◌, [], length};
+ghost use Rattle.inverter_worker.specs.declared.state.End.{End as Ending};
+
+use crate::begin::{begin, turned};
+use crate::turning::go_on;
+use frame_inbox::Inbox;
+use inverter_worker::{End, Job, Sent, State, Step};
+use ledger_desk::Desk;
+use std::alloc::Global;
+use std::marker::Model;
+use world_traits::{Clock, Dialer, Watch};
+
+/// What a turn came to.
+#[derive(Clone, Copy, Debug, PartialEq, Eq)]
+pub enum Turned {
+    /// The worker is ready for another turn.
+    Again,
+    /// The worker is over.
+    Over(End),
+}
+
+/// The work of one inverter between its turns.
+#[derive(Debug, Drop)]
+pub struct Worker {
+    job: Job,
+    state: State,
+    log: Vec<Sent>,
+    inbox: Inbox,
+}
+
+impl Model for Worker {
+    ghost use Rattle.std.specs.Prelude.{◌≤◌};
+    ghost use Rattle.worker_turn.specs.Worker.{WorkerRecord, IsBetweenTurns};
+
+    ghost Value = { WorkerRecord };
+
+    ghost view = { λ w. record { job = w.job; state = w.state; log = w.log.items; unread = w.inbox } };
+
+    ghost invariant = { λ w. (w.job.port.base ≤ 65514) × IsBetweenTurns w.state.step };
+}
+
+impl Worker {
+    ghost use Rattle.worker_turn.specs.Doing.{world_of};
+    ghost use Rattle.worker_turn.specs.Desks.{TestsLast};
+    ghost use Rattle.worker_turn.specs.Worker.{Answers, IsTurn, new_worker};
+
+    /// A worker with so many turns, and no link.
+    pub fn new(alloc: Global, job: Job, turns: u32) -> Worker
+        requires { job.port.base ≤ 65514 }
+        ensures { result ≡ new_worker job turns }
+    {
+        let state = State {
+            step: Step::Ready,
+            up: false,
+            last: None,
+            turns,
+            skipped: 0,
+        };
+        Worker {
+            job,
+            state,
+            log: Vec::new(alloc),
+            inbox: Inbox::new(),
+        }
+    }
+
+    /// The requests that were sent so far, in order, each with the reading of the clock before it.
+    pub fn log(&self) -> &[Sent]
+        ensures { result.now ≡ self.now.log }
+    {
+        &self.log
+    }
+
+    /// One turn: aims at the goal that the desk tells, asks for a limit or reads it back over the link that the dialer
+    /// makes, and rests. It takes its room first: two entries of the log. It may wait, as the desk, the dialer and the
+    /// clock may. A worker that is over does nothing.
+    pub fn turn<D: Desk, N: Dialer, K: Clock>(
+        &mut self,
+        desk: &mut D,
+        dialer: &mut N,
+        watch: &mut Watch<'_, K>,
+    ) -> Turned
+        requires of_desk { self.old.job.inverter < (D.state desk.old).inverters }
+        requires readings { watch.old.readings ≡ [] }
+
+        // What it answers is where the worker stands then.
+        ensures answer { Answers result self.new.state.step }
+        ensures job { self.new.job ≡ self.old.job }
+
+        // A worker that is ready makes a turn.
+        ensures turn { self.old.state.step ≡ Step.Ready
+            → IsTurn (D.may_tell desk.new) (D.was_full desk.new) self.old self.new
+            (world_of (D.state desk.old) (N.links dialer.old) (N.faults dialer.old) watch.old.readings
+            self.old.unread)
+            (world_of (D.state desk.new) (N.links dialer.new) (N.faults dialer.new) watch.new.readings
+            self.new.unread) }
+        ensures few { length watch.new.readings ≤ 6 }
+
+        // Where it found no memory it did nothing else.
+        ensures memory { self.new.state.step ≡ Step.Over End.NoMemory → (self.new.log ≡ self.old.log)
+            × (world_of (D.state desk.new) (N.links dialer.new) (N.faults dialer.new) watch.new.readings
+            self.new.unread
+            ≡ world_of (D.state desk.old) (N.links dialer.old) (N.faults dialer.old) watch.old.readings
+            self.old.unread) }
+
+        // One that is over does nothing.
+        ensures over { (end : Ending) → self.old.state.step ≡ Step.Over end → (self.new ≡ self.old)
+            × (world_of (D.state desk.new) (N.links dialer.new) (N.faults dialer.new) watch.new.readings
+            self.new.unread
+            ≡ world_of (D.state desk.old) (N.links dialer.old) (N.faults dialer.old) watch.old.readings
+            self.old.unread) }
+
+        // It rolls no book, and what passed a test of the desk passes it later too.
+        ensures rolls { (D.state desk.new).rolls ≡ (D.state desk.old).rolls }
+        ensures inverters { (D.state desk.new).inverters ≡ (D.state desk.old).inverters }
+        ensures last { TestsLast (D.may_tell desk.old) (D.may_tell desk.new) (D.was_full desk.old)
+            (D.was_full desk.new) (D.ended desk.old) (D.ended desk.new) (D.was_full_life desk.old)
+            (D.was_full_life desk.new) }
+        ensures clock { watch.new.clock ≡ watch.old.clock }
+    {
+        if let Step::Over(end) = self.state.step {
+            return Turned::Over(end);
+        }
+        let begun = begin(&self.job, self.state, &mut self.log);
+        let (log, inbox) = (&mut self.log, &mut self.inbox);
+        let state = go_on(&self.job, begun, log, inbox, desk, dialer, watch);
+        self.state = state;
+        turned(state.step)
+    }
+}
