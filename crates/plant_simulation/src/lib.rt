@@ -1,0 +1,11 @@
+//! A simulated plant: inverters whose writes are lost, repeated, late and out of order, under the real ledger.
+#![tactic(auto)]
+
+mod inverter;
+mod simulation;
+mod site;
+mod summary;
+mod words;
+
+pub use inverter::{OldWrite, Request};
+pub use summary::{Summary, simulate};
