@@ -6,3 +6,4 @@ pub mod Call
 pub mod Step
 pub mod Ready
 pub mod Summary
+pub mod Text

@@ -5,7 +5,12 @@ mod inverter;
 mod simulation;
 mod site;
 mod summary;
+mod text;
 mod words;
 
 pub use inverter::{OldWrite, Request};
 pub use summary::{Summary, simulate};
+pub use text::summary_text;
+
+#[cfg(test)]
+mod tests;
