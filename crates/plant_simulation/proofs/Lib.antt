@@ -1,0 +1,5 @@
+pub mod Lists
+pub mod Entering
+pub mod Ready
+pub mod Ranges
+pub mod Running

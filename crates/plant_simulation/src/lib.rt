@@ -1,0 +1,16 @@
+//! A simulated plant: inverters whose writes are lost, repeated, late and out of order, under the real ledger.
+#![tactic(auto)]
+
+mod inverter;
+mod simulation;
+mod site;
+mod summary;
+mod text;
+mod words;
+
+pub use inverter::{OldWrite, Request};
+pub use summary::{Summary, simulate};
+pub use text::summary_text;
+
+#[cfg(test)]
+mod tests;
