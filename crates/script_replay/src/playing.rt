@@ -92,7 +92,8 @@ fn step(
 }
 
 /// Does the lines that are left, one after another as they are read, and adds their texts. Behind a line that found
-/// its book full they are only judged. Answers the calls of that book, if there was one.
+/// its book full, or for which memory ran out, they are only judged. Answers the calls of the full book, if there was
+/// one.
 pub fn play(
     alloc: Global,
     lines: &mut Lines<'_>,
@@ -112,7 +113,10 @@ pub fn play(
                 judge_rest(lines)?;
                 return Ok(Some(calls));
             }
-            Err(NoMemory) => return Err(ReplayFault::NoMemory),
+            Err(NoMemory) => {
+                judge_rest(lines)?;
+                return Err(ReplayFault::NoMemory);
+            }
         }
     }
     Ok(None)

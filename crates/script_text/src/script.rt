@@ -42,6 +42,7 @@ impl Model for Script {
 }
 
 /// The fault of a row of this number that is no line, or not at its place.
+#[inline(always)]
 fn bad_form(line: u32) -> ScriptFault
     ensures { result ≡ ScriptFault.BadLine line LineKind.Form }
 {
@@ -52,6 +53,7 @@ fn bad_form(line: u32) -> ScriptFault
 }
 
 /// The fault of the row before these rows.
+#[inline(always)]
 fn bad_before(rows: &Rows<'_>, kind: LineKind) -> ScriptFault
     requires { 1 ≤ rows.now.number }
     ensures { result ≡ ScriptFault.BadLine (rows.now.number - 1) kind }
@@ -131,6 +133,7 @@ pub fn read_units(
 
 /// The next line behind a head, of one of so many inverters and not below the last moment, and the rows behind
 /// it; or none at the end.
+#[inline(always)]
 pub fn read_line(
     rows: Rows<'_>,
     inverters: usize,

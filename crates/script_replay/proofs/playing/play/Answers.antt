@@ -31,3 +31,9 @@ returns-in-Ok-Some c =
     let full = rw c.in-Ok-Some.field-0-is at c.in-Ok-Some.ensures in
     found_full (bytes_of c.args.lines.now) c.args.plant.now c.loop-line.plant c.step.new.plant c.loop-line.lines c.next.new.lines c.loop-line.text.items c.step.new.text.items c.in-Some.line c.in-Ok-Some.calls one
     c.loop-line.invariant full c.in_ok-judge_rest-in-Ok-Some.ensures
+
+pub returns-in_err-judge_rest-in-Err : goal.returns-in_err-judge_rest-in-Err
+returns-in_err-judge_rest-in-Err c =
+    let one = rw c.in-Some.is at c.in_ok-line.ensures in
+    let p = err_from_is_err_and c.from_residual-in_err-judge_rest-in-Err.result c.from_residual-in_err-judge_rest-in-Err.ensures.1 in
+    rw (p.1, p.2) (not_past (bytes_of c.args.lines.now) c.args.plant.now c.loop-line.plant c.loop-line.lines c.next.new.lines c.loop-line.text.items c.in-Some.line _ one c.in_err-judge_rest-in-Err.ensures c.loop-line.invariant)
