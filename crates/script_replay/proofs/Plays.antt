@@ -2,7 +2,7 @@
 use Rattle.std.proofs.Common.{◌≡◌, ℕ, zero, suc, Bool, true, false, ◌+◌, ◌<◌, ◌≤◌, max, List, [], ◌∷◌, ◌++◌, length, map, take, drop, get_or, Option, Some, None, Result, Ok, Err, refl, sym, ap, subst, ◌∙◌, arith, append_assoc, length-append, add-one, drop-cons}
 use Rattle.std.specs.Prelude.{IfSome, MatchOption, OnOk, is_some}
 use Rattle.std.specs.List.{flat_map, AllByRecursion}
-use Rattle.std.proofs.lemmas.List.{append-nil, map_push, map-append, take_more, take-append-drop, flat_map_more, length-map, length-take, take_all}
+use Rattle.std.proofs.lemmas.List.{append-nil, map_push, map-append, take_more, take-append-drop, take-append-le, flat_map_more, length-map, length-take, take_all}
 use Rattle.std.proofs.lemmas.List.Concat.{flat_map-append}
 use Rattle.plant_book.specs.declared.call.Call.{Call}
 use Rattle.plant_book.specs.declared.call.Call.TheVariants as calls
@@ -29,14 +29,21 @@ use Rattle.script_text.specs.declared.line.Line.TheVariants as lines
 use Rattle.script_text.specs.Grammar.{Statement, Begin, Says}
 use Rattle.script_text.specs.Script.{ScriptRecord, InRange, OfSite, InTime, MayFollow, EachMayFollow, inverters_in, latest_in, moment_on, last_of, site_statement, inverter_statement, head_statements, script_statements, IsScript}
 use Rattle.script_text.specs.Text.{Deed, Entered, Begun, Rolled, deed_line, deed_text, head_text, lives_text}
+use Rattle.script_text.specs.declared.lines.Lines.{Lines}
+use Rattle.script_text.specs.declared.fault.ScriptFault.{ScriptFault}
+use Rattle.script_text.specs.declared.fault.ScriptFault.TheVariants as readings
 use Rattle.script_text.specs.Progress.{IsBegun}
+use Rattle.script_text.specs.Progress as reading
+use Rattle.script_text.specs.Reader.{HasRead, LineRead, with_lines}
+use Rattle.script_text.proofs.Count.{read_within}
+use Rattle.std.proofs.Math.Seq.{get_or-append_seam, take-append_seam}
 use Rattle.script_text.proofs.Steps.{begun_on}
 use Rattle.script_text.proofs.Taken.{head_begun}
 use Rattle.script_replay.specs.Chain.{Chain, empty_life, first_chain, chain_after, chain_behind, IsDone, AreDone, history_of, IsSafeChain}
-use Rattle.script_replay.specs.Playing.{Stands, LineFits, Played, Does, FindsFull, Steps, Ends, IsFirstLife}
+use Rattle.script_replay.specs.Playing.{Stands, LineFits, Played, Does, FindsFull, Steps, Ends, IsFirstLife, script_with, IsReplayed, IsReplayedWhole, FaultExplained, NextLine, AreLast}
 use Rattle.script_replay.specs.declared.replay.ReplayFault.{ReplayFault}
 use Rattle.script_replay.specs.declared.replay.ReplayFault.TheVariants as faults
-use Rattle.script_replay.specs.Replay.{IsReplay, Explains, RefusesSite}
+use Rattle.script_replay.specs.Replay.{IsReplay, Explains, RefusesSite, fault_of}
 
 -- ---- one more deed
 
@@ -329,37 +336,96 @@ pub on_ok : {T E : Type 0} (r : Result T E) (P Q : Type 0) → (P → Q) → OnO
 on_ok (Ok x) P Q f p = f p
 on_ok (Err e) P Q f p = tt
 
--- ---- the loop over the lines
+-- ---- one line after another
 
-get_default : (xs : List Line) (i : ℕ) (d e : Line) → i < length xs → get_or xs i d ≡ get_or xs i e
-get_default [] i d e less = absurd (omega (arith, less))
-get_default (x ∷ xs) zero d e less = refl
-get_default (x ∷ xs) (suc i) d e less = get_default xs i d e (omega (arith, less))
+-- what was played of a script's first lines was played of the script
+played_in : (script : ScriptRecord) (done more : List Line) (part : PartRecord) (text : List ℕ) → script.lines ≡ done ++ more → Played (record { site = script.site; start = script.start; lines = done }) (length done) part text
+    → Played script (length done) part text
+played_in script done more part text are p = record {
+  deeds = p.deeds;
+  lines_are = p.lines_are ∙ sym (take-append-le (length done) done more (omega arith)) ∙ ap (λ (x : List Line). take (length done) x) (sym are);
+  done = p.done;
+  stands = p.stands;
+  text_is = p.text_is;
+}
 
-pub item_is : (xs ys : List Line) (i : ℕ) (d : Line) → xs ≡ ys → i < length xs → get_or xs i d ≡ get_or ys i (get_or xs i d)
-item_is xs ys i d same less = ap (λ (zs : List Line). get_or zs i d) same ∙ get_default ys i d (get_or xs i d) (omega (arith, less, ap length same))
+seam_less : (its done more : List Line) (line : Line) → its ≡ done ++ line ∷ more → length done < length its
+seam_less its done more line are = omega (arith, ap length are, length-append done (line ∷ more))
 
-pub is_done : (line : Line) (old new : PartRecord) (before after : List ℕ) (full : Option ℕ) → is_some full ≡ false → Steps line old new before after full → Does line old new before after
-is_done line old new before after None none step = step
-is_done line old new before after (Some calls) none step = absurd cc
+seam_is : (its done more : List Line) (line : Line) → its ≡ done ++ line ∷ more → line ≡ get_or its (length done) line
+seam_is its done more line are = sym (ap (λ (x : List Line). get_or x (length done) line) are ∙ get_or-append_seam done line more line)
 
-pub ends_full : (script : ScriptRecord) (count : ℕ) (line : Line) (old new : PartRecord) (before after : List ℕ) (full : Option ℕ) → is_some full ≡ true → count < length script.lines → line ≡ get_or script.lines count line → Played script count old before
-    → Steps line old new before after full → Ends script new after full
-ends_full script count line old new before after None full less is p step = absurd cc
-ends_full script count line old new before after (Some calls) full less is p step =
+pub next_fits : (bytes : List ℕ) (first part : PartRecord) (old new : Lines) (text : List ℕ) (line : Line) → length bytes ≤ 134217728 → LineRead old line new → IsReplayed bytes first old part text → LineFits part line
+next_fits bytes first part old new text line few one r =
+    let whole : ScriptRecord = script_with first (r.done ++ line ∷ []) in
+    let has : HasRead bytes whole new = one.goes_on bytes (script_with first r.done) r.read in
+    let short : length whole.lines ≤ 134217728 = omega (arith, few, read_within bytes whole new has) in
+    line_fits whole (length r.done) line part text has.is_at.each short (seam_less (r.done ++ line ∷ []) r.done [] line refl) (seam_is (r.done ++ line ∷ []) r.done [] line refl) (played_in whole r.done (line ∷ []) part text refl r.played)
+
+pub line_done : (bytes : List ℕ) (first part next : PartRecord) (old new : Lines) (before after : List ℕ) (line : Line) → LineRead old line new → IsReplayed bytes first old part before → Does line part next before after
+    → IsReplayed bytes first new next after
+line_done bytes first part next old new before after line one r does =
+    let whole : ScriptRecord = script_with first (r.done ++ line ∷ []) in
+    let more = played_more whole (length r.done) line part next before after (seam_less (r.done ++ line ∷ []) r.done [] line refl) (seam_is (r.done ++ line ∷ []) r.done [] line refl) (played_in whole r.done (line ∷ []) part before refl r.played) does in
+    let count : length r.done + 1 ≡ length (r.done ++ line ∷ []) = omega (arith, length-append r.done (line ∷ [])) in
+    record {
+      done = r.done ++ line ∷ [];
+      read = one.goes_on bytes (script_with first r.done) r.read;
+      played = subst (λ (n : ℕ). Played whole n next after) count more;
+    }
+
+ends_full : (script : ScriptRecord) (done more : List Line) (line : Line) (old new : PartRecord) (before after : List ℕ) (calls : ℕ) → script.lines ≡ done ++ line ∷ more → Played script (length done) old before
+    → FindsFull line old new before after calls → Ends script new after (Some calls)
+ends_full script done more line old new before after calls are p step =
+    let count : ℕ = length done in
     let played : Played script count new after = subst (λ (part : PartRecord). Played script count part after) (sym step.same) (subst (λ (t : List ℕ). Played script count old t) (sym step.text) p) in
     let site : old.site ≡ script.site = site_is script count old before p in
     let room : old.site.room ≡ script.site.room = ap (λ (s : SiteRecord). s.room) site in
-    let cut : script.lines ≡ take count script.lines ++ line ∷ drop (suc count) script.lines =
-    sym (take-append-drop count script.lines) ∙ ap (λ (x : List Line). take count script.lines ++ x) (drop-cons script.lines count line less ∙ ap (λ (x : Line). x ∷ drop (suc count) script.lines) (sym is)) in (
+    let front : take count script.lines ≡ done = ap (λ (x : List Line). take count x) are ∙ take-append_seam done (line ∷ more) in (
       count,
       played,
       step.call,
-      drop (suc count) script.lines,
-      cut ∙ ap (λ (x : Line). take count script.lines ++ x ∷ drop (suc count) script.lines) step.line_is,
+      more,
+      are ∙ ap (λ (x : List Line). x ++ line ∷ more) (sym front) ∙ ap (λ (x : Line). take count script.lines ++ x ∷ more) step.line_is,
       ap (λ (b : PartRecord). length b.entries) step.same ∙ step.full ∙ room,
       step.room ∙ room,
     )
+
+pub found_full : (bytes : List ℕ) (first part next : PartRecord) (old new : Lines) (before after : List ℕ) (line : Line) (calls : ℕ) → LineRead old line new → IsReplayed bytes first old part before
+    → FindsFull line part next before after calls → AreLast new → IsReplayedWhole bytes first next after (Some calls)
+found_full bytes first part next old new before after line calls one r step last =
+    let rest = last bytes (script_with first (r.done ++ line ∷ [])) (one.goes_on bytes (script_with first r.done) r.read) in
+    let its : List Line = (r.done ++ line ∷ []) ++ rest.0 in
+    let are : its ≡ r.done ++ line ∷ rest.0 = append_assoc r.done (line ∷ []) rest.0 in
+    record {
+      lines = its;
+      is_script = rest.1;
+      ends = ends_full (script_with first its) r.done rest.0 line part next before after calls are (played_in (script_with first its) r.done (line ∷ rest.0) part before are r.played) step;
+    }
+
+pub all_done : (bytes : List ℕ) (first part : PartRecord) (left : Lines) (text : List ℕ) → ((bytes : List ℕ) (script : ScriptRecord) → HasRead bytes script left → IsScript bytes script) → IsReplayed bytes first left part text
+    → IsReplayedWhole bytes first part text None
+all_done bytes first part left text ends r = record { lines = r.done; is_script = ends bytes (script_with first r.done) r.read; ends = r.played }
+
+pub not_further : (bytes : List ℕ) (first part : PartRecord) (left : Lines) (text : List ℕ) (fault : ReplayFault) → FaultExplained left fault → IsReplayed bytes first left part text → Explains fault bytes
+not_further bytes first part left text fault bad r = bad bytes (script_with first r.done) r.read
+
+pub not_past : (bytes : List ℕ) (first part : PartRecord) (old new : Lines) (text : List ℕ) (line : Line) (fault : ReplayFault) → LineRead old line new → FaultExplained new fault → IsReplayed bytes first old part text → Explains fault bytes
+not_past bytes first part old new text line fault one bad r = bad bytes (script_with first (r.done ++ line ∷ [])) (one.goes_on bytes (script_with first r.done) r.read)
+
+-- ---- judging alone
+
+pub fault_explains : (fault : ScriptFault) (bytes : List ℕ) → reading.Explains fault bytes → Explains (fault_of fault) bytes
+fault_explains (readings.BadLine line kind) bytes why = why
+fault_explains readings.NoMemory bytes why = tt
+
+pub some_line : (found : Option Line) (old new : Lines) → is_some found ≡ true → NextLine old new (Ok found) → (line : Line) × LineRead old line new
+some_line (Some line) old new some one = (line, one)
+some_line None old new some ends = absurd cc
+
+pub no_line_left : (found : Option Line) (old new : Lines) → is_some found ≡ false → NextLine old new (Ok found) → (bytes : List ℕ) (script : ScriptRecord) → HasRead bytes script old → IsScript bytes script
+no_line_left (Some line) old new none one = absurd cc
+no_line_left None old new none ends = ends
 
 -- ---- from bytes to the text
 
@@ -369,8 +435,20 @@ start_high script each =
     let its : List Statement = map (λ line. Says line) script.lines in
     (each_at [] head its (Begin script.start) (subst (λ (x : List Statement). EachMayFollow [] x) (append_assoc head (Begin script.start ∷ []) its) each)).range
 
-pub begun : (bytes : List ℕ) (script : ScriptRecord) (part : PartRecord) (text : List ℕ) → IsScript bytes script → IsFirstLife script part → text ≡ head_text script.site script.start → Played script 0 part text
-begun bytes script part text is first added = first_played script part text (start_high script is.each) first.0 first.1 (added ∙ sym (append-nil (head_text script.site script.start)))
+pub starts : (bytes : List ℕ) (script : ScriptRecord) (left : Lines) → HasRead bytes script left → script.start ≤ MOMENT_MAX
+starts bytes script left has = start_high script has.is_at.each
+
+pub begun : (bytes : List ℕ) (site : SiteRecord) (start : ℕ) (left : Lines) (part : PartRecord) (text : List ℕ) → HasRead bytes (record { site = site; start = start; lines = [] }) left
+    → IsFirstLife (record { site = site; start = start; lines = [] }) part → text ≡ head_text site start → IsReplayed bytes part left part text
+begun bytes site start left part text has first added =
+    let script : ScriptRecord = record { site = site; start = start; lines = [] } in
+    let same : script ≡ script_with part [] = ap (λ (b : PartRecord). script_with b []) (sym first.0) in
+    let played : Played script 0 part text = first_played script part text (starts bytes script left has) first.0 first.1 (added ∙ sym (append-nil (head_text site start))) in
+    record {
+      done = [];
+      read = subst (λ (s : ScriptRecord). HasRead bytes s left) same has;
+      played = subst (λ (s : ScriptRecord). Played s 0 part text) same played;
+    }
 
 pub refuses : (bytes : List ℕ) (script : ScriptRecord) (fault : ReplayFault) → IsScript bytes script → RefusesSite script.site fault → Explains fault bytes
 refuses bytes script faults.NoMemory is refused = tt
@@ -400,3 +478,12 @@ is_replay bytes script part text (Some calls) is openable ends =
       safe = safe_chain (chain_behind (first_chain script.site script.start) p.deeds) part p.stands;
       text_is = p.text_is;
     }
+
+pub whole_replay : (bytes : List ℕ) (script : ScriptRecord) (first part : PartRecord) (text : List ℕ) (full : Option ℕ) → IsFirstLife script first → IsReplayedWhole bytes first part text full → IsReplay bytes full text
+whole_replay bytes script first part text full begins r =
+    is_replay bytes (script_with first r.lines) part text full r.is_script (subst IsOpenable (ap (λ (b : PartRecord). b.site) (sym begins.0)) begins.1) r.ends
+
+pub refuses_rest : (bytes : List ℕ) (script : ScriptRecord) (left : Lines) (fault : ReplayFault) → HasRead bytes script left → AreLast left → RefusesSite script.site fault → Explains fault bytes
+refuses_rest bytes script left fault has last refused =
+    let rest = last bytes script has in
+    refuses bytes (with_lines script rest.0) fault rest.1 refused

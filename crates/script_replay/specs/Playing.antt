@@ -1,5 +1,5 @@
 -- What is kept while a script is replayed.
-use Rattle.std.specs.Prelude.{◌≡◌, ℕ, ◌≤◌, ◌<◌, List, [], ◌∷◌, ◌++◌, length, IfSome, take, map, Option, Some, None}
+use Rattle.std.specs.Prelude.{◌≡◌, ℕ, ◌≤◌, ◌<◌, List, [], ◌∷◌, ◌++◌, length, IfSome, take, map, Option, Some, None, Result, Ok, Err}
 use Rattle.plant_book.specs.declared.call.Call.{Call}
 use Rattle.plant_book.specs.declared.call.TheConstants.{MOMENT_MAX}
 use Rattle.plant_book.specs.declared.book.Entry.{Entry}
@@ -12,9 +12,13 @@ use Rattle.plant_book.specs.History.{IsHistory}
 use Rattle.plant_ledger.specs.Plant.{IsFullLife}
 use Rattle.script_text.specs.declared.line.Line.{Line}
 use Rattle.script_text.specs.declared.line.Line.TheVariants as lines
-use Rattle.script_text.specs.Script.{ScriptRecord}
+use Rattle.script_text.specs.declared.lines.Lines.{Lines}
+use Rattle.script_text.specs.Script.{ScriptRecord, IsScript}
+use Rattle.script_text.specs.Reader.{HasRead, LineRead, with_lines}
 use Rattle.script_text.specs.Text.{Deed, deed_line, deed_text, lives_text}
 use Rattle.script_replay.specs.Chain.{Chain, first_chain, chain_after, chain_behind, IsDone, AreDone, history_of}
+use Rattle.script_replay.specs.declared.replay.ReplayFault.{ReplayFault}
+use Rattle.script_replay.specs.Replay.{Explains}
 
 -- a plant keeps the last book of the lives so far
 pub record Stands (chain : Chain) (part : PartRecord) : Type 0 where
@@ -69,6 +73,42 @@ Ends script part text (Some calls) =
     (count : ℕ) × Played script count part text × (call : Call) × (more : List Line)
     × (script.lines ≡ take count script.lines ++ lines.One call ∷ more)
     × (length part.entries ≡ script.site.room) × (calls ≡ script.site.room)
+
+-- the script of these lines whose first book is that of the plant
+abbrev pub script_with : PartRecord → List Line → ScriptRecord
+script_with first done = record { site = first.site; start = first.start; lines = done }
+
+-- the bytes that the lines are read from
+abbrev pub bytes_of : Lines → List ℕ
+bytes_of lines = lines.rows.whole.now
+
+-- Some lines of a script were read and done, and its lines that are left are these. The plant was opened as the
+-- first one.
+pub record IsReplayed (bytes : List ℕ) (first : PartRecord) (lines : Lines) (part : PartRecord) (text : List ℕ) : Type 0 where
+  pub done : List Line
+  pub read : HasRead bytes (script_with first done) lines
+  pub played : Played (script_with first done) (length done) part text
+
+-- why a script isn't replayed further
+abbrev pub FaultExplained : Lines → ReplayFault → Type 0
+FaultExplained lines fault = (bytes : List ℕ) (script : ScriptRecord) → HasRead bytes script lines → Explains fault bytes
+
+-- what came of reading one more line
+abbrev pub NextLine : Lines → Lines → Result (Option Line) ReplayFault → Type 0
+NextLine old new (Ok (Some line)) = LineRead old line new
+NextLine old new (Ok None) = (bytes : List ℕ) (script : ScriptRecord) → HasRead bytes script old → IsScript bytes script
+NextLine old new (Err fault) = FaultExplained old fault
+
+-- the lines that are left are those of a script
+abbrev pub AreLast : Lines → Type 0
+AreLast lines = (bytes : List ℕ) (script : ScriptRecord) → HasRead bytes script lines
+    → (more : List Line) × IsScript bytes (with_lines script more)
+
+-- the whole script was read, and replayed as far as a book was full
+pub record IsReplayedWhole (bytes : List ℕ) (first part : PartRecord) (text : List ℕ) (full : Option ℕ) : Type 0 where
+  pub lines : List Line
+  pub is_script : IsScript bytes (script_with first lines)
+  pub ends : Ends (script_with first lines) part text full
 
 -- the empty book of a new life of the same site
 abbrev pub IsNextLife : PartRecord → ℕ → PartRecord → Type 0

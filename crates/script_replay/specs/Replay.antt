@@ -8,6 +8,8 @@ use Rattle.plant_ledger.specs.declared.opening.OpenFault.TheVariants as openings
 use Rattle.plant_ledger.specs.Opening.{open_fault}
 use Rattle.script_text.specs.declared.line.Line.{Line}
 use Rattle.script_text.specs.declared.line.Line.TheVariants as lines
+use Rattle.script_text.specs.declared.fault.ScriptFault.{ScriptFault}
+use Rattle.script_text.specs.declared.fault.ScriptFault.TheVariants as readings
 use Rattle.script_text.specs.Script.{ScriptRecord, IsScript, IsFirstBadLine}
 use Rattle.script_text.specs.Text.{Deed, deed_line, lives_text}
 use Rattle.script_replay.specs.declared.replay.ReplayFault.{ReplayFault}
@@ -61,3 +63,8 @@ pub record HasRoom (bytes : List ℕ) : Type 0 where
   pub deeds : List Deed
   pub all : map deed_line deeds ≡ script.lines
   pub done : AreDone (first_chain script.site script.start) deeds
+
+-- the fault of reading a script as one of its replay
+abbrev pub fault_of : ScriptFault → ReplayFault
+fault_of (readings.BadLine line kind) = faults.BadLine line kind
+fault_of readings.NoMemory = faults.NoMemory

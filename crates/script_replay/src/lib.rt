@@ -6,6 +6,7 @@
 
 mod laws;
 mod playing;
+mod reading;
 mod replay;
 
 pub use laws::{one_replay, room_is_enough};

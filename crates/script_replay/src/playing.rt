@@ -1,14 +1,16 @@
-ghost use Rattle.std.specs.Prelude.{◌≡◌, ◌≤◌, ◌<◌, ◌+◌, List, [], length, OnOk, IfOk};
+ghost use Rattle.std.specs.Prelude.{◌≡◌, ◌≤◌, length, OnOk, IfOk, MatchResult};
 ghost use Rattle.plant_book.specs.Carry.{EachBefore};
 ghost use Rattle.plant_ledger.specs.Plant.{Rolls};
 ghost use Rattle.script_text.specs.declared.line.Line.TheVariants as lines;
-ghost use Rattle.script_text.specs.Script.{EachMayFollow, script_statements};
-ghost use Rattle.script_replay.specs.Playing.{LineFits, IsNextLife, Does, Steps, Played, Ends};
+ghost use Rattle.script_replay.specs.Replay.{Explains};
+ghost use Rattle.script_replay.specs.Playing.{LineFits, IsNextLife, Does, Steps, IsReplayed, IsReplayedWhole, bytes_of};
 
+use crate::reading::{judge_rest, next};
+use crate::replay::ReplayFault;
 use limiter_num::NoMemory;
 use plant_book::{Call, Entry};
 use plant_ledger::{Plant, RollFault};
-use script_text::{Line, Script, entry_text, restart_text, roll_text};
+use script_text::{Line, Lines, entry_text, restart_text, roll_text};
 use std::alloc::Global;
 
 /// Enters a call, and adds its line. Answers the calls of the book where that is full.
@@ -89,23 +91,32 @@ fn step(
     Ok(None)
 }
 
-/// Does the lines of a script, and adds their texts. Answers the calls of the first book that was full, if one
-/// was.
+/// Does the lines that are left, one after another as they are read, and adds their texts. Behind a line that found
+/// its book full, or for which memory ran out, they are only judged. Answers the calls of the full book, if there was
+/// one.
 pub fn play(
     alloc: Global,
-    script: &Script,
+    lines: &mut Lines<'_>,
     plant: &mut Plant,
     text: &mut Vec<u8>,
-) -> Result<Option<u32>, NoMemory>
-    requires begun { Played script.now 0 plant.old text.old.items }
-    requires lines { EachMayFollow [] (script_statements script.now) }
-    requires few { length script.now.lines ≤ 134217728 }
-    ensures { IfOk result (λ full. Ends script.now plant.new text.new.items full) }
+) -> Result<Option<u32>, ReplayFault>
+    requires begun { IsReplayed (bytes_of lines.old) plant.old lines.old plant.old text.old.items }
+    requires few { length (bytes_of lines.old) ≤ 134217728 }
+    ensures { MatchResult result
+        (λ full. IsReplayedWhole (bytes_of lines.old) plant.old plant.new text.new.items full)
+        (λ fault. Explains fault (bytes_of lines.old)) }
 {
-    for line in &script.lines {
-        let full = step(alloc, plant, text, *line)?;
-        if full.is_some() {
-            return Ok(full);
+    while let Some(line) = next(lines)? {
+        match step(alloc, plant, text, line) {
+            Ok(None) => {}
+            Ok(Some(calls)) => {
+                judge_rest(lines)?;
+                return Ok(Some(calls));
+            }
+            Err(NoMemory) => {
+                judge_rest(lines)?;
+                return Err(ReplayFault::NoMemory);
+            }
         }
     }
     Ok(None)

@@ -1,15 +1,16 @@
-ghost use Rattle.std.specs.Prelude.{◌≡◌, ◌≤◌, length, IfOk, IfErr};
+ghost use Rattle.std.specs.Prelude.{◌≡◌, ◌≤◌, [], length, IfOk, IfErr};
 ghost use Rattle.script_text.specs.declared.script.TheConstants.{SCRIPT_BYTES_MAX};
 ghost use Rattle.plant_book.specs.declared.call.TheConstants.{MOMENT_MAX};
-ghost use Rattle.script_text.specs.Script.{IsScript};
 ghost use Rattle.script_text.specs.Text.{head_text};
 ghost use Rattle.script_replay.specs.Replay.{IsReplay, Explains, RefusesSite};
 ghost use Rattle.script_replay.specs.Playing.{IsFirstLife};
 
 use crate::playing::play;
+use crate::reading::{begin, judge_rest};
 use limiter_num::NoMemory;
+use plant_book::Site;
 use plant_ledger::{OpenFault, Plant};
-use script_text::{LineKind, Script, ScriptFault, head_text, script_of};
+use script_text::{Begun, LineKind, head_text};
 use std::alloc::Global;
 
 /// The text of a script's lives.
@@ -37,29 +38,13 @@ pub enum ReplayFault {
     NoMemory,
 }
 
-/// The script that the bytes spell.
-fn read(alloc: Global, bytes: &[u8]) -> Result<Script, ReplayFault>
-    requires { length bytes.now ≤ SCRIPT_BYTES_MAX }
-    ensures script { IfOk result (λ script. IsScript bytes.now script) }
-    ensures fault { IfErr result (λ fault. Explains fault bytes.now) }
-{
-    match script_of(alloc, bytes) {
-        Ok(script) => Ok(script),
-        Err(ScriptFault::BadLine { line, kind }) => Err(ReplayFault::BadLine { line, kind }),
-        Err(ScriptFault::NoMemory) => Err(ReplayFault::NoMemory),
-    }
-}
-
 /// The plant of the first life of a script.
-fn open(alloc: Global, script: &Script) -> Result<Plant, ReplayFault>
-    requires { script.now.start ≤ MOMENT_MAX }
-    ensures opened { IfOk result (λ plant. IsFirstLife script.now plant) }
-    ensures fault { IfErr result (λ fault. RefusesSite script.now.site fault) }
+fn open(alloc: Global, site: Site, start: u64) -> Result<Plant, ReplayFault>
+    requires { start ≤ MOMENT_MAX }
+    ensures opened { IfOk result (λ plant. IsFirstLife (record { site = site; start = start; lines = [] }) plant) }
+    ensures fault { IfErr result (λ fault. RefusesSite site fault) }
 {
-    let Ok(site) = script.site.clone() else {
-        return Err(ReplayFault::NoMemory);
-    };
-    match Plant::open(alloc, site, script.start) {
+    match Plant::open(alloc, site, start) {
         Ok(plant) => Ok(plant),
         Err(OpenFault::NoMemory) => Err(ReplayFault::NoMemory),
         Err(fault) => Err(ReplayFault::BadSite(fault)),
@@ -67,28 +52,37 @@ fn open(alloc: Global, script: &Script) -> Result<Plant, ReplayFault>
 }
 
 /// The text of the head of a script.
-fn begin(alloc: Global, script: &Script) -> Result<Vec<u8>, ReplayFault>
-    ensures text { IfOk result (λ text. text.items ≡ head_text script.now.site script.now.start) }
+fn head(alloc: Global, site: &Site, start: u64) -> Result<Vec<u8>, ReplayFault>
+    ensures text { IfOk result (λ text. text.items ≡ head_text site.now start) }
     ensures fault { IfErr result (λ fault. fault ≡ ReplayFault.NoMemory) }
 {
     let mut text = Vec::new(alloc);
-    match head_text(&mut text, &script.site, script.start) {
+    match head_text(&mut text, site, start) {
         Ok(()) => Ok(text),
         Err(NoMemory) => Err(ReplayFault::NoMemory),
     }
 }
 
-/// Replays a script: does its lines one after another, and writes the text of its lives.
+/// Replays a script: does its lines one after another as they are read, and writes the text of its lives.
 pub fn replay_script(alloc: Global, bytes: &[u8]) -> Result<Replayed, ReplayFault>
     requires { length bytes.now ≤ SCRIPT_BYTES_MAX }
     ensures text { IfOk result (λ replayed. IsReplay bytes.now replayed.full replayed.text.items) }
     ensures fault { IfErr result (λ fault. Explains fault bytes.now) }
 {
-    let script = read(alloc, bytes)?;
-    let mut plant = open(alloc, &script)?;
-    let mut text = begin(alloc, &script)?;
-    match play(alloc, &script, &mut plant, &mut text) {
-        Ok(full) => Ok(Replayed { text, full }),
-        Err(NoMemory) => Err(ReplayFault::NoMemory),
+    let Begun {
+        site,
+        start,
+        mut lines,
+    } = begin(alloc, bytes)?;
+    let mut text = head(alloc, &site, start)?;
+    match open(alloc, site, start) {
+        Ok(mut plant) => {
+            let full = play(alloc, &mut lines, &mut plant, &mut text)?;
+            Ok(Replayed { text, full })
+        }
+        Err(fault) => {
+            judge_rest(&mut lines)?;
+            Err(fault)
+        }
     }
 }

@@ -3,6 +3,8 @@ use Rattle.std.proofs.Common.{◌≡◌, ℕ, zero, suc, ◌+◌, ◌<◌, ◌�
 use Rattle.std.specs.Str.Lines.{lines}
 use Rattle.std.proofs.lemmas.List.{length-map}
 use Rattle.script_text.specs.declared.line.Line.{Line}
+use Rattle.script_text.specs.declared.lines.Lines.{Lines}
+use Rattle.script_text.specs.Reader.{HasRead}
 use Rattle.script_text.specs.Grammar.{Statement, Says}
 use Rattle.script_text.specs.Script.{ScriptRecord, Say, statements_of, IsScript, head_statements, script_statements}
 use Rattle.script_text.specs.Reading.{row_at, behind_row}
@@ -33,6 +35,21 @@ lines_within bytes script is =
       lines_few (length bytes) bytes (omega arith),
       said_few (lines bytes) is.said is.say,
       ap length is.statements,
+      length-append (head_statements script.site script.start) (map (λ (line : Line). Says line) script.lines),
+      length-map script.lines (λ (line : Line). Says line),
+    )
+
+pub read_within : (bytes : List ℕ) (script : ScriptRecord) (left : Lines) → HasRead bytes script left → length script.lines ≤ length bytes
+read_within bytes script left has =
+    let p = has.is_at in
+    omega (
+      arith,
+      ap length has.whole,
+      lines_few (length left.rows.whole.now) left.rows.whole.now (omega arith),
+      ap length p.rows,
+      length-append p.before (lines left.rows.rest.now),
+      said_few p.before p.said p.say,
+      ap length p.statements_are,
       length-append (head_statements script.site script.start) (map (λ (line : Line). Says line) script.lines),
       length-map script.lines (λ (line : Line). Says line),
     )

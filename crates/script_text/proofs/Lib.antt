@@ -8,3 +8,4 @@ pub mod Written
 pub mod Once
 pub mod Back
 pub mod Count
+pub mod Reader

@@ -18,7 +18,7 @@ use Rattle.script_text.specs.declared.head.HeadLine.{HeadLine}
 use Rattle.script_text.specs.declared.head.HeadLine.TheVariants as heads
 use Rattle.script_text.specs.declared.head.SiteLine as sites
 use Rattle.script_text.specs.declared.rows.Rows.{Rows}
-use Rattle.script_text.specs.declared.script.ScriptFault.{ScriptFault}
+use Rattle.script_text.specs.declared.fault.ScriptFault.{ScriptFault}
 use Rattle.script_text.specs.Grammar.{Statement, Site, Inverter, Begin, Says, IsSpelled, IsComment}
 use Rattle.script_text.specs.Script.{ScriptRecord, Say, last_of, inverter_on, inverters_in, moment_on, latest_in, begin_on, begins_in, MayFollow, Lacks, EachMayFollow, IsFirstBadLine, IsScript, site_statement, inverter_statement, head_statements, script_statements}
 use Rattle.script_text.specs.Reading.{number_most, size_most, begins_with, row_at, behind_row, fields_at, statement_of, fields_of}
@@ -157,23 +157,6 @@ pub units_fault : (first rows : Rows) (units : List unit.Unit) (fault : ScriptFa
 units_fault first rows units fault bad whole before = λ site none at.
     subst (λ (w : List ℕ). Explains fault w) whole (bad (site ∷ map inverter_statement units) (before site none at) (omega arith) (head_begins site units none))
 
--- ---- lines
-
-pub lines_on : (first rows behind : Rows) (inverters start latest : ℕ) (taken taken' : List Line) (line : Line) → taken' ≡ taken ++ line ∷ [] → OneLineTaken rows inverters latest line behind
-    → ((before : List Statement) → IsAt first before → IsBegun inverters start before → IsAt rows (before ++ map (λ line. Says line) taken))
-    → ((before : List Statement) → IsBegun inverters start before → IsBegun inverters latest (before ++ map (λ line. Says line) taken))
-    → (before : List Statement) → IsAt first before → IsBegun inverters start before → IsAt behind (before ++ map (λ line. Says line) taken')
-lines_on first rows behind inverters start latest taken taken' line is one at begun before at0 b =
-    let step = one.is_at (before ++ map (λ line. Says line) taken) (at before at0 b) (begun before b) in
-    rw (is, map_push (λ line. Says line) taken line) (rw append_assoc at step)
-
-pub begun_more : (inverters start latest latest' : ℕ) (taken taken' : List Line) (line : Line) → taken' ≡ taken ++ line ∷ [] → latest' ≡ last_of latest (moment_on (Says line))
-    → ((before : List Statement) → IsBegun inverters start before → IsBegun inverters latest (before ++ map (λ line. Says line) taken))
-    → (before : List Statement) → IsBegun inverters start before → IsBegun inverters latest' (before ++ map (λ line. Says line) taken')
-begun_more inverters start latest latest' taken taken' line is later begun before b =
-    let step = begun_on inverters latest (before ++ map (λ line. Says line) taken) line (begun before b) in
-    rw (is, map_push (λ line. Says line) taken line, later) (rw append_assoc at step)
-
 -- ---- the whole
 
 head_inverters : (site : Statement) (units : List unit.Unit) → inverters_in (site ∷ map inverter_statement units) ≡ inverters_in (site ∷ []) + length units
@@ -214,34 +197,16 @@ fewer bytes rest number numbers some read few =
 
 -- ---- the parts of a script one behind the other
 
-abbrev first_rows : Bor (List ℕ) → Rows
+abbrev pub first_rows : Bor (List ℕ) → Rows
 first_rows bytes = record { whole = bytes; rest = bytes; number = 1 }
 
-abbrev line_of_site : sites.SiteLine → Statement
+abbrev pub line_of_site : sites.SiteLine → Statement
 line_of_site site = site_statement site.cap site.rules site.policy site.room
 
 pub units_explain : (bytes : Bor (List ℕ)) (rows : Rows) (site : sites.SiteLine) (fault : ScriptFault) → SiteTaken (first_rows bytes) site rows → UnitsFault rows fault → Explains fault bytes.now
 units_explain bytes rows site fault taken bad =
     subst (λ (w : List ℕ). Explains fault w) taken.further.whole (bad (line_of_site site) refl (taken.is_at (begins bytes.now)))
 
-lines_begun : (bytes : Bor (List ℕ)) (rows behind : Rows) (site : sites.SiteLine) (units : List unit.Unit) (start : ℕ) → SiteTaken (first_rows bytes) site rows → UnitsTaken rows units start behind
+pub lines_begun : (bytes : Bor (List ℕ)) (rows behind : Rows) (site : sites.SiteLine) (units : List unit.Unit) (start : ℕ) → SiteTaken (first_rows bytes) site rows → UnitsTaken rows units start behind
     → IsAt behind (line_of_site site ∷ map inverter_statement units ++ Begin start ∷ [])
 lines_begun bytes rows behind site units start taken more = more.is_at (line_of_site site) refl (taken.is_at (begins bytes.now))
-
-pub lines_explain : (bytes : Bor (List ℕ)) (rows behind : Rows) (site : sites.SiteLine) (units : List unit.Unit) (start inverters : ℕ) (fault : ScriptFault) → SiteTaken (first_rows bytes) site rows
-    → UnitsTaken rows units start behind → inverters ≡ length units → LineFault behind inverters start fault → Explains fault bytes.now
-lines_explain bytes rows behind site units start inverters fault taken more count bad =
-    subst (λ (w : List ℕ). Explains fault w) (more.whole ∙ taken.further.whole)
-    (bad (line_of_site site ∷ map inverter_statement units ++ Begin start ∷ []) (lines_begun bytes rows behind site units start taken more)
-    (subst (λ (n : ℕ). IsBegun n start (line_of_site site ∷ map inverter_statement units ++ Begin start ∷ [])) (sym count) (head_begun (line_of_site site) units start refl refl)))
-
-pub is_whole : (bytes : Bor (List ℕ)) (rows behind : Rows) (site : sites.SiteLine) (units : List unit.Unit) (start inverters : ℕ) (taken_lines : List Line) (made : SiteRecord) → SiteTaken (first_rows bytes) site rows
-    → UnitsTaken rows units start behind → inverters ≡ length units → LinesTaken behind inverters start taken_lines
-    → made ≡ record { cap = site.cap; rules = site.rules; policy = site.policy; room = site.room; units = units } → IsScript bytes.now (record { site = made; start = start; lines = taken_lines })
-is_whole bytes rows behind site units start inverters taken_lines made taken more count all is =
-    let before : List Statement = line_of_site site ∷ map inverter_statement units ++ Begin start ∷ [] in
-    let last = all before (lines_begun bytes rows behind site units start taken more) (subst (λ (n : ℕ). IsBegun n start before) (sym count) (head_begun (line_of_site site) units start refl refl)) in
-    let same : behind.whole.now ≡ bytes.now = more.whole ∙ taken.further.whole in
-    whole_script bytes.now (record { site = made; start = start; lines = taken_lines }) (before ++ map (λ line. Says line) taken_lines) last.0
-    (subst (λ (w : List ℕ). Progress w [] (before ++ map (λ line. Says line) taken_lines) last.0) same last.1)
-    (ap (λ (s : SiteRecord). script_statements (record { site = s; start = start; lines = taken_lines })) (sym is))

@@ -5,3 +5,4 @@ pub mod Text
 pub mod Reading
 pub mod Progress
 pub mod Lines
+pub mod Reader

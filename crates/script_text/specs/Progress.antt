@@ -12,8 +12,8 @@ use Rattle.script_text.specs.declared.head.SiteLine as sites
 use Rattle.script_text.specs.declared.rows.Rows.{Rows}
 use Rattle.script_text.specs.declared.rows.Row.{Row}
 use Rattle.script_text.specs.declared.rows.Row.TheVariants as row
-use Rattle.script_text.specs.declared.script.ScriptFault.{ScriptFault}
-use Rattle.script_text.specs.declared.script.ScriptFault.TheVariants as faults
+use Rattle.script_text.specs.declared.fault.ScriptFault.{ScriptFault}
+use Rattle.script_text.specs.declared.fault.ScriptFault.TheVariants as faults
 use Rattle.script_text.specs.Grammar.{Statement, Begin, Says}
 use Rattle.script_text.specs.Script.{Say, statements_of, MayFollow, Lacks, EachMayFollow, IsFirstBadLine, InRange, begins_in, inverters_in, latest_in, site_statement, inverter_statement}
 use Rattle.script_text.specs.Reading.{statement_of}

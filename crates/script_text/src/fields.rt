@@ -88,6 +88,7 @@ pub enum Fields {
 }
 
 #[tactic(auto, unfolding(crate::specs::Reading::site_at))]
+#[inline(never)]
 fn site(bytes: &[u8]) -> Option<(Fields, &[u8])>
     ensures { Gives result (site_at number_most bytes.now) }
 {
@@ -113,6 +114,7 @@ fn site(bytes: &[u8]) -> Option<(Fields, &[u8])>
 }
 
 #[tactic(auto, unfolding(crate::specs::Reading::inverter_at))]
+#[inline(never)]
 fn inverter(bytes: &[u8]) -> Option<(Fields, &[u8])>
     ensures { Gives result (inverter_at number_most size_most bytes.now) }
 {
@@ -130,6 +132,7 @@ fn inverter(bytes: &[u8]) -> Option<(Fields, &[u8])>
 }
 
 #[tactic(auto, unfolding(crate::specs::Reading::none_at))]
+#[inline(never)]
 fn roll(bytes: &[u8]) -> Option<(Fields, &[u8])>
     ensures { Gives result (none_at fields.Roll bytes.now) }
 {
@@ -137,6 +140,7 @@ fn roll(bytes: &[u8]) -> Option<(Fields, &[u8])>
 }
 
 #[tactic(auto, unfolding(crate::specs::Reading::one_at))]
+#[inline(always)]
 fn tick(bytes: &[u8]) -> Option<(Fields, &[u8])>
     ensures { Gives result (one_at number_most fields.Tick bytes.now) }
 {
@@ -145,6 +149,7 @@ fn tick(bytes: &[u8]) -> Option<(Fields, &[u8])>
 }
 
 #[tactic(auto, unfolding(crate::specs::Reading::three_at))]
+#[inline(always)]
 fn ask(bytes: &[u8]) -> Option<(Fields, &[u8])>
     ensures { Gives result (three_at number_most fields.Ask bytes.now) }
 {
@@ -155,6 +160,7 @@ fn ask(bytes: &[u8]) -> Option<(Fields, &[u8])>
 }
 
 #[tactic(auto, unfolding(crate::specs::Reading::two_at))]
+#[inline(never)]
 fn read(bytes: &[u8]) -> Option<(Fields, &[u8])>
     ensures { Gives result (two_at number_most fields.Read bytes.now) }
 {
@@ -164,6 +170,7 @@ fn read(bytes: &[u8]) -> Option<(Fields, &[u8])>
 }
 
 #[tactic(auto, unfolding(crate::specs::Reading::four_at))]
+#[inline(never)]
 fn saw(bytes: &[u8]) -> Option<(Fields, &[u8])>
     ensures { Gives result (four_at number_most fields.Saw bytes.now) }
 {
@@ -183,6 +190,7 @@ fn saw(bytes: &[u8]) -> Option<(Fields, &[u8])>
 }
 
 #[tactic(auto, unfolding(crate::specs::Reading::three_at))]
+#[inline(never)]
 fn want(bytes: &[u8]) -> Option<(Fields, &[u8])>
     ensures { Gives result (three_at number_most fields.Want bytes.now) }
 {
@@ -193,6 +201,7 @@ fn want(bytes: &[u8]) -> Option<(Fields, &[u8])>
 }
 
 #[tactic(auto, unfolding(crate::specs::Reading::four_at))]
+#[inline(never)]
 fn back(bytes: &[u8]) -> Option<(Fields, &[u8])>
     ensures { Gives result (four_at number_most fields.Back bytes.now) }
 {
@@ -212,6 +221,7 @@ fn back(bytes: &[u8]) -> Option<(Fields, &[u8])>
 }
 
 #[tactic(auto, unfolding(crate::specs::Reading::two_at))]
+#[inline(never)]
 fn link(bytes: &[u8]) -> Option<(Fields, &[u8])>
     ensures { Gives result (two_at number_most fields.Link bytes.now) }
 {
@@ -221,6 +231,7 @@ fn link(bytes: &[u8]) -> Option<(Fields, &[u8])>
 }
 
 #[tactic(auto, unfolding(crate::specs::Reading::one_at))]
+#[inline(never)]
 fn stop(bytes: &[u8]) -> Option<(Fields, &[u8])>
     ensures { Gives result (one_at number_most fields.Stop bytes.now) }
 {
@@ -229,6 +240,7 @@ fn stop(bytes: &[u8]) -> Option<(Fields, &[u8])>
 }
 
 #[tactic(auto, unfolding(crate::specs::Reading::one_at))]
+#[inline(never)]
 fn restart(bytes: &[u8]) -> Option<(Fields, &[u8])>
     ensures { Gives result (one_at number_most fields.Restart bytes.now) }
 {
@@ -237,6 +249,7 @@ fn restart(bytes: &[u8]) -> Option<(Fields, &[u8])>
 }
 
 #[tactic(auto, unfolding(crate::specs::Reading::one_at))]
+#[inline(never)]
 fn begin(bytes: &[u8]) -> Option<(Fields, &[u8])>
     ensures { Gives result (one_at number_most fields.Begin bytes.now) }
 {
@@ -245,6 +258,7 @@ fn begin(bytes: &[u8]) -> Option<(Fields, &[u8])>
 }
 
 #[tactic(auto, unfolding(crate::specs::Reading::two_at))]
+#[inline(never)]
 fn cap(bytes: &[u8]) -> Option<(Fields, &[u8])>
     ensures { Gives result (two_at number_most fields.Cap bytes.now) }
 {
@@ -255,6 +269,7 @@ fn cap(bytes: &[u8]) -> Option<(Fields, &[u8])>
 
 /// The numbers of the row at the front, and the bytes behind it.
 #[tactic(auto, unfolding(crate::specs::Reading::fields_at))]
+#[inline(always)]
 pub fn read_fields(bytes: &[u8]) -> Option<(Fields, &[u8])>
     ensures { Gives result (fields_at number_most size_most bytes.now) }
 {

@@ -30,6 +30,7 @@ fn rules(send: u64, delay: u64, timer: u64, per_mille: u64, slack: u64) -> Optio
 }
 
 /// A moment in ms, if it isn't above the greatest.
+#[inline(always)]
 fn moment(at: u64) -> Option<u64>
     ensures { MatchOption result (MOMENT_MAX < at) (λ moment. (moment ≡ at) × (at ≤ MOMENT_MAX)) }
 {
@@ -39,6 +40,7 @@ fn moment(at: u64) -> Option<u64>
     Some(at)
 }
 
+#[inline(always)]
 fn link(at: u64, inverter: u64) -> Option<Line>
     ensures { Judges result (lines.One (calls.Link at inverter)) }
 {
@@ -47,6 +49,7 @@ fn link(at: u64, inverter: u64) -> Option<Line>
     Some(Line::One(Call::Link { at, inverter }))
 }
 
+#[inline(always)]
 fn ask(at: u64, inverter: u64, raw: u64) -> Option<Line>
     ensures { Judges result (lines.One (calls.Ask at inverter raw)) }
 {
@@ -56,6 +59,7 @@ fn ask(at: u64, inverter: u64, raw: u64) -> Option<Line>
     Some(Line::One(Call::Ask { at, inverter, raw }))
 }
 
+#[inline(always)]
 fn read(at: u64, inverter: u64) -> Option<Line>
     ensures { Judges result (lines.One (calls.Read at inverter)) }
 {
@@ -64,6 +68,7 @@ fn read(at: u64, inverter: u64) -> Option<Line>
     Some(Line::One(Call::Read { at, inverter }))
 }
 
+#[inline(always)]
 fn saw(at: u64, inverter: u64, number: u64, raw: u64) -> Option<Line>
     ensures { Judges result (lines.One (calls.Saw at inverter number raw)) }
 {
@@ -79,6 +84,7 @@ fn saw(at: u64, inverter: u64, number: u64, raw: u64) -> Option<Line>
     }))
 }
 
+#[inline(always)]
 fn back(at: u64, inverter: u64, link: u64, number: u64) -> Option<Line>
     ensures { Judges result (lines.One (calls.Back at inverter link number)) }
 {
@@ -94,6 +100,7 @@ fn back(at: u64, inverter: u64, link: u64, number: u64) -> Option<Line>
     }))
 }
 
+#[inline(always)]
 fn want(at: u64, inverter: u64, mw: u64) -> Option<Line>
     ensures { Judges result (lines.One (calls.Want at inverter mw)) }
 {
@@ -105,6 +112,7 @@ fn want(at: u64, inverter: u64, mw: u64) -> Option<Line>
     Some(Line::One(Call::Want { at, inverter, mw }))
 }
 
+#[inline(always)]
 fn tick(at: u64) -> Option<Line>
     ensures { Judges result (lines.One (calls.Tick at)) }
 {
@@ -112,6 +120,7 @@ fn tick(at: u64) -> Option<Line>
     Some(Line::One(Call::Tick { at }))
 }
 
+#[inline(always)]
 fn stop(at: u64) -> Option<Line>
     ensures { Judges result (lines.One (calls.Stop at)) }
 {
@@ -119,6 +128,7 @@ fn stop(at: u64) -> Option<Line>
     Some(Line::One(Call::Stop { at }))
 }
 
+#[inline(always)]
 fn cap(at: u64, mw: u64) -> Option<Line>
     ensures { Judges result (lines.One (calls.Cap at mw)) }
 {
@@ -129,6 +139,7 @@ fn cap(at: u64, mw: u64) -> Option<Line>
     Some(Line::One(Call::Cap { at, mw }))
 }
 
+#[inline(always)]
 fn restart(at: u64) -> Option<Line>
     ensures { Judges result (lines.Restart at) }
 {
@@ -136,6 +147,7 @@ fn restart(at: u64) -> Option<Line>
 }
 
 /// The line of these numbers, if they are those of a line behind a head, and in their ranges.
+#[inline(always)]
 fn line_of(numbers: Fields) -> Result<Line, LineKind>
     ensures { (before : List Statement) → 1 ≤ length (begins_in before) → MatchResult result
         (λ line. (Says line ≡ statement_of numbers) × InRange (statement_of numbers))
@@ -281,6 +293,7 @@ pub fn judge_head(numbers: Fields) -> Result<HeadLine, LineKind>
 }
 
 /// Whether the inverter that a line names is one of so many.
+#[inline(always)]
 fn is_of_site(line: &Line, inverters: usize) -> bool
     ensures { IsTrue result ↔ OfSite inverters (Says line.now) }
 {
@@ -294,6 +307,7 @@ fn is_of_site(line: &Line, inverters: usize) -> bool
 }
 
 /// Whether the moment of a line isn't below the last one, in ms.
+#[inline(always)]
 fn is_in_time(line: &Line, latest: u64) -> bool
     ensures { IsTrue result ↔ InTime latest (Says line.now) }
 {
@@ -305,6 +319,7 @@ fn is_in_time(line: &Line, latest: u64) -> bool
 }
 
 /// The last moment behind a line, in ms.
+#[inline(always)]
 pub fn moment_after(line: &Line, latest: u64) -> u64
     ensures { result ≡ last_of latest (moment_on (Says line.now)) }
 {
@@ -317,6 +332,7 @@ pub fn moment_after(line: &Line, latest: u64) -> u64
 
 /// The line of these numbers, if they are those of a line behind the head, of one of so many inverters, whose
 /// moment isn't below the last one.
+#[inline(always)]
 pub fn judge_line(numbers: Fields, inverters: usize, latest: u64) -> Result<Line, LineKind>
     ensures { (before : List Statement) → 1 ≤ length (begins_in before) → inverters_in before ≡ inverters
         → latest_in before ≡ latest → MatchResult result

@@ -1,4 +1,4 @@
-ghost use Rattle.std.specs.Prelude.{◌≡◌, option_copied, Some};
+ghost use Rattle.std.specs.Prelude.{◌≡◌, ◌≤◌, ◌+◌, ◌*◌, min, option_copied, Some};
 ghost use Rattle.script_text.specs.Reading.{Gives, rest_after, behind_row, remark_at, end_at, feed_at};
 ghost use Rattle.script_text.specs.Reading.{digits_at, number_at, next_at, negative_at, positive_at, signed_at, below_zero, policy_at};
 ghost use Rattle.script_text.specs.Reading.{number_most, size_most};
@@ -8,7 +8,11 @@ use plant_book::Policy;
 /// The greatest size of a number that may be below zero, as it is read.
 const SIZE_MAX: u64 = 65_536;
 
+/// Below it a number surely has room for one more digit.
+const SHORT_END: u64 = 1_000_000_000_000_000_000;
+
 /// The bytes behind a text at the front.
+#[inline(always)]
 pub fn after<'a>(bytes: &'a [u8], text: &[u8]) -> Option<&'a [u8]>
     ensures { option_copied result ≡ rest_after text.now bytes.now }
 {
@@ -43,6 +47,7 @@ fn remark(bytes: &[u8]) -> Option<&[u8]>
 }
 
 /// The bytes behind the row, where nothing is left of it that is read.
+#[inline(always)]
 pub fn end(bytes: &[u8]) -> Option<&[u8]>
     ensures { option_copied result ≡ end_at bytes.now }
 {
@@ -55,8 +60,21 @@ pub fn end(bytes: &[u8]) -> Option<&[u8]>
     }
 }
 
+/// The number with one more digit behind its own.
+#[inline(always)]
+fn with_digit(number: u64, digit: u8) -> u64
+    requires { digit ≤ 9 }
+    ensures { result ≡ min (number * 10 + digit) number_most }
+{
+    if number < SHORT_END {
+        return number * 10 + u64::from(digit);
+    }
+    number.saturating_mul(10).saturating_add(u64::from(digit))
+}
+
 /// The number of the digits at the front, behind those of a first number, and the bytes behind them.
 #[tactic(auto, unfolding(crate::specs::Reading::digits_at))]
+#[inline(always)]
 fn digits(bytes: &[u8], first: u64) -> (u64, &[u8])
     ensures { digits_at number_most first bytes.now ≡ (result.0, result.1.now) }
 {
@@ -65,15 +83,14 @@ fn digits(bytes: &[u8], first: u64) -> (u64, &[u8])
         if *byte < b'0' || *byte > b'9' {
             return (number, &bytes[i..]);
         }
-        number = number
-            .saturating_mul(10)
-            .saturating_add(u64::from(*byte - b'0'));
+        number = with_digit(number, *byte - b'0');
     }
     (number, &bytes[bytes.len()..])
 }
 
 /// The number at the front, and the bytes behind it.
 #[tactic(auto, unfolding(crate::specs::Reading::number_at))]
+#[inline(always)]
 fn number(bytes: &[u8]) -> Option<(u64, &[u8])>
     ensures { Gives result (number_at number_most bytes.now) }
 {
@@ -86,6 +103,7 @@ fn number(bytes: &[u8]) -> Option<(u64, &[u8])>
 
 /// The number behind a space, and the bytes behind it.
 #[tactic(auto, unfolding(crate::specs::Reading::next_at))]
+#[inline(always)]
 pub fn next(bytes: &[u8]) -> Option<(u64, &[u8])>
     ensures { Gives result (next_at number_most bytes.now) }
 {

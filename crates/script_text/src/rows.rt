@@ -29,6 +29,7 @@ pub enum Row<'a> {
 }
 
 /// Whether the row at the front is a comment.
+#[inline(always)]
 fn is_comment(bytes: &[u8]) -> bool
     ensures { IsTrue result ↔ IsComment (row_at bytes.now) }
 {
@@ -39,6 +40,7 @@ fn is_comment(bytes: &[u8]) -> bool
 }
 
 /// The rows from the first one on that is no comment.
+#[inline(always)]
 fn past_comments(rows: Rows<'_>) -> Rows<'_>
     requires { rows.number + length rows.rest.now < 2 ^ 32 }
     ensures few { result.number + length result.rest.now < 2 ^ 32 }
@@ -65,6 +67,7 @@ fn past_comments(rows: Rows<'_>) -> Rows<'_>
 }
 
 /// What is at the front of the rows, comments left out.
+#[inline(always)]
 pub fn next_row(rows: Rows<'_>) -> Row<'_>
     requires { rows.number + length rows.rest.now < 2 ^ 32 }
     ensures next { IsNextRow rows.entry result }

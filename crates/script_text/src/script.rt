@@ -1,13 +1,16 @@
-ghost use Rattle.std.specs.Prelude.{◌≡◌, ◌+◌, ◌-◌, ◌^◌, ◌<◌, ◌≤◌, List, [], ◌∷◌, ◌++◌, length, map, vec_len, IfOk, IfErr, MatchResult};
+ghost use Rattle.std.specs.Prelude.{◌≡◌, ℕ, ◌+◌, ◌-◌, ◌^◌, ◌<◌, ◌≤◌, List, [], length, IfOk, IfErr, MatchResult};
 ghost use Rattle.script_text.specs.Grammar.{Statement, Begin, Says};
-ghost use Rattle.script_text.specs.Script.{begins_in, inverters_in, latest_in, site_statement, inverter_statement, IsScript};
+ghost use Rattle.script_text.specs.Script.{ScriptRecord, IsScript};
 ghost use Rattle.script_text.specs.Progress.{IsAt, Said, Explains, HeadFault, SiteTaken, HeadLineTaken, HeadLineFault, UnitsTaken, UnitsFault};
-ghost use Rattle.script_text.specs.Progress.{LineTaken, LineFault, LinesTaken};
+ghost use Rattle.script_text.specs.Progress.{LineTaken};
+ghost use Rattle.script_text.specs.Reader.{CanGoOn, HasRead, FaultExplained, with_lines};
 
+use crate::fault::ScriptFault;
 use crate::fields::Fields;
 use crate::head::{HeadLine, SiteLine};
 use crate::judging::{judge_head, judge_line, judge_site, moment_after};
 use crate::line::{Line, LineKind};
+use crate::lines::{Begun, Lines, read_head};
 use crate::rows::{Row, Rows, next_row};
 use limiter_num::NoMemory;
 use plant_book::{Site, Unit};
@@ -38,21 +41,8 @@ impl Model for Script {
     ghost view = { λ s. record { site = s.site; start = s.start; lines = s.lines.items } };
 }
 
-/// Why bytes are no script.
-#[derive(Clone, Copy, Debug, PartialEq, Eq)]
-pub enum ScriptFault {
-    /// The first bad line.
-    BadLine {
-        /// Its number, from 1.
-        line: u32,
-        /// How it is at fault.
-        kind: LineKind,
-    },
-    /// Memory ran out.
-    NoMemory,
-}
-
 /// The fault of a row of this number that is no line, or not at its place.
+#[inline(always)]
 fn bad_form(line: u32) -> ScriptFault
     ensures { result ≡ ScriptFault.BadLine line LineKind.Form }
 {
@@ -63,6 +53,7 @@ fn bad_form(line: u32) -> ScriptFault
 }
 
 /// The fault of the row before these rows.
+#[inline(always)]
 fn bad_before(rows: &Rows<'_>, kind: LineKind) -> ScriptFault
     requires { 1 ≤ rows.now.number }
     ensures { result ≡ ScriptFault.BadLine (rows.now.number - 1) kind }
@@ -88,7 +79,7 @@ fn next_of_head(rows: Rows<'_>) -> Result<(Fields, Rows<'_>), ScriptFault>
 }
 
 /// The site line, and the rows behind it.
-fn read_site(rows: Rows<'_>) -> Result<(SiteLine, Rows<'_>), ScriptFault>
+pub fn read_site(rows: Rows<'_>) -> Result<(SiteLine, Rows<'_>), ScriptFault>
     requires { rows.number + length rows.rest.now < 2 ^ 32 }
     ensures { MatchResult result
         (λ found. SiteTaken rows.entry found.0 found.1)
@@ -116,7 +107,10 @@ fn read_head_line(rows: Rows<'_>) -> Result<(HeadLine, Rows<'_>), ScriptFault>
 }
 
 /// The inverters behind the site line, the begin, and the rows behind it.
-fn read_units(alloc: Global, mut rows: Rows<'_>) -> Result<(Vec<Unit>, u64, Rows<'_>), ScriptFault>
+pub fn read_units(
+    alloc: Global,
+    mut rows: Rows<'_>,
+) -> Result<(Vec<Unit>, u64, Rows<'_>), ScriptFault>
     requires { rows.number + length rows.rest.now < 2 ^ 32 }
     ensures { MatchResult result
         (λ found. UnitsTaken rows.entry found.0.items found.1 found.2)
@@ -139,7 +133,8 @@ fn read_units(alloc: Global, mut rows: Rows<'_>) -> Result<(Vec<Unit>, u64, Rows
 
 /// The next line behind a head, of one of so many inverters and not below the last moment, and the rows behind
 /// it; or none at the end.
-fn read_line(
+#[inline(always)]
+pub fn read_line(
     rows: Rows<'_>,
     inverters: usize,
     latest: u64,
@@ -157,28 +152,21 @@ fn read_line(
     }
 }
 
-/// The lines behind a head of so many inverters, which begins at this moment in ms.
-fn read_lines(
-    alloc: Global,
-    mut rows: Rows<'_>,
-    inverters: usize,
-    start: u64,
-) -> Result<Vec<Line>, ScriptFault>
-    requires { rows.number + length rows.rest.now < 2 ^ 32 }
+/// The lines behind the head.
+fn all_lines(alloc: Global, lines: &mut Lines<'_>) -> Result<Vec<Line>, ScriptFault>
+    requires { CanGoOn lines.old }
     ensures { MatchResult result
-        (λ lines. LinesTaken rows.entry inverters start lines.items)
-        (λ fault. LineFault rows.entry inverters start fault) }
+        (λ taken. (bytes : List ℕ) (script : ScriptRecord) → HasRead bytes script lines.old
+        → IsScript bytes (with_lines script taken.items))
+        (λ fault. FaultExplained lines.old fault) }
 {
-    let mut lines = Vec::new(alloc);
-    let mut latest = start;
-    while let Some((line, behind)) = read_line(rows, inverters, latest)? {
-        latest = moment_after(&line, latest);
-        if lines.push(line).is_err() {
+    let mut taken = Vec::new(alloc);
+    while let Some(line) = lines.next_line()? {
+        if taken.push(line).is_err() {
             return Err(ScriptFault::NoMemory);
         }
-        rows = behind;
     }
-    Ok(lines)
+    Ok(taken)
 }
 
 /// The script that the bytes spell, or their first bad line with its kind.
@@ -187,17 +175,11 @@ pub fn script_of(alloc: Global, bytes: &[u8]) -> Result<Script, ScriptFault>
     ensures script { IfOk result (λ script. IsScript bytes.now script) }
     ensures fault { IfErr result (λ fault. Explains fault bytes.now) }
 {
-    let rows = Rows {
-        whole: bytes,
-        rest: bytes,
-        number: 1,
-    };
-    let (line, rows) = read_site(rows)?;
-    let (units, start, rows) = read_units(alloc, rows)?;
-    let lines = read_lines(alloc, rows, units.len(), start)?;
-    Ok(Script {
-        site: Site::new(line.cap, line.rules, line.policy, line.room, units),
+    let Begun {
+        site,
         start,
-        lines,
-    })
+        mut lines,
+    } = read_head(alloc, bytes)?;
+    let lines = all_lines(alloc, &mut lines)?;
+    Ok(Script { site, start, lines })
 }

@@ -1,4 +1,4 @@
-ghost use Rattle.std.specs.Prelude.{◌≡◌, ◌≤◌, ◌+◌, ◌++◌, ◌∷◌, map, OnOk, OnErr};
+ghost use Rattle.std.specs.Prelude.{◌≡◌, ◌≤◌, ◌+◌, ◌++◌, ◌∷◌, [], map, OnOk, OnErr};
 ghost use Rattle.script_text.specs.Words.{spaced, written, line_text};
 ghost use Rattle.script_text.specs.Grammar.{Inverter, Begin, policy_word, call_words, reply_words, statement_words};
 ghost use Rattle.script_text.specs.Grammar as statements;
@@ -11,6 +11,7 @@ use limiter_num::NoMemory;
 use plant_book::{Call, Entry, Policy, Reply, Site, Unit};
 
 /// Writes a call before a line.
+#[inline(always)]
 fn call(pen: &mut Pen, call: &Call)
     requires room { 88 ≤ pen.old.at }
     requires within { pen.old.at ≤ 160 }
@@ -55,6 +56,7 @@ fn call(pen: &mut Pen, call: &Call)
 }
 
 /// Writes a reply before a line.
+#[inline(always)]
 fn reply(pen: &mut Pen, reply: &Reply)
     requires room { 52 ≤ pen.old.at }
     requires within { pen.old.at ≤ 160 }
@@ -86,15 +88,17 @@ fn reply(pen: &mut Pen, reply: &Reply)
     }
 }
 
-/// The line of an entry.
-fn entry_line(entry: &Entry) -> Pen
-    ensures { tail_of result ≡ entry_text entry.now }
+/// Writes an entry into an empty line.
+#[inline(always)]
+fn entry_line(pen: &mut Pen, entry: &Entry)
+    requires line { tail_of pen.old ≡ 10 ∷ [] }
+    requires room { pen.old.at ≡ 159 }
+    ensures line { tail_of pen.new ≡ entry_text entry.now }
+    ensures within { pen.new.at ≤ 160 }
 {
-    let mut pen = Pen::new();
-    reply(&mut pen, &entry.reply);
+    reply(pen, &entry.reply);
     pen.text(b" = ");
-    call(&mut pen, &entry.call);
-    pen
+    call(pen, &entry.call);
 }
 
 /// The line of a restart at a moment in ms.
@@ -259,7 +263,9 @@ pub fn entry_text(out: &mut Vec<u8>, entry: &Entry) -> Result<(), NoMemory>
     ensures text { OnOk result (out.new.items ≡ out.old.items ++ entry_text entry.now) }
     ensures unchanged { OnErr result (out.new.items ≡ out.old.items) }
 {
-    put(out, entry_line(entry).line())
+    let mut pen = Pen::new();
+    entry_line(&mut pen, entry);
+    put(out, pen.line())
 }
 
 /// Adds the line of a restart at a moment in ms. Where memory runs out nothing is added.
