@@ -19,7 +19,9 @@ use Rattle.plant_book.specs.Site.{SiteRecord, inverters}
 use Rattle.plant_book.specs.Book.{BookRecord}
 use Rattle.plant_book.specs.Part.{UnitRecord, CarryRecord, PartRecord, begin_of, calls_of, last_moment_of, book_before, book_behind}
 use Rattle.plant_book.specs.Writes.{live}
-use Rattle.plant_book.specs.Carry.{unit_of, carry_of, IsBehind, EachBefore}
+use Rattle.plant_book.specs.Carry.{unit_of, mark_of, carry_of, IsBehind, IsBookPart, EachBefore, EachBook}
+use Rattle.plant_book.specs.declared.carry.CapMark as marks
+use Rattle.plant_book.specs.Sums.{last_that}
 use Rattle.plant_book.specs.Calls.{moment, named, latest}
 use Rattle.plant_book.specs.Requests as counted
 use Rattle.plant_book.specs.Caps.{sets_by, sets_cap, cap_by, cap_of}
@@ -32,7 +34,7 @@ use Rattle.plant_book.proofs.Inverters.{mw_at-is, floor_at-is, floor_raw_at-is, 
 use Rattle.plant_book.proofs.Steps.{latest-push}
 use Rattle.plant_book.proofs.Growth.{IsBook-push, IsBook-empty, empty_book, with_entry}
 use Rattle.uncertain_writes.proofs.Pending.{PendsOwn-answered}
-use Rattle.plant_ledger.specs.declared.account.Account.{Account}
+use Rattle.plant_ledger.specs.Account.{Account}
 use Rattle.plant_ledger.specs.Account.{IsAccount, HasRoom, first_account, after_call}
 use Rattle.plant_ledger.specs.Ledger.{IsUnit, AreAccounts, IsLedger, IsLedgerOf, account_at}
 use Rattle.plant_ledger.specs.Plant.{with_one, next_book, Rolls}
@@ -119,8 +121,9 @@ module _ (book : BookRecord) (entry : Entry) (accounts others : List Account) (a
       })
 
 -- an account, to have one where it doesn't matter which
-abbrev any_account : Account
-any_account = record { link = 0; requests = 0; pending = None; strange = false; wish = 0; live = [] }
+any_account : (accounts : List Account) → 0 < length accounts → Account
+any_account [] some = absurd (omega (arith, some))
+any_account (account ∷ later) some = account
 
 next_accounts : (book : BookRecord) (entry : Entry) (accounts others : List Account) → AreAccounts book (moment entry.call) accounts
     → IsBook book → IsAnswer book book.entries entry → IsNext book.site book.start book.entries entry.call → Follow book entry accounts others
@@ -128,7 +131,8 @@ next_accounts : (book : BookRecord) (entry : Entry) (accounts others : List Acco
 next_accounts book entry accounts others are right answer next follow None is = next_unnamed book entry accounts others are right answer next is (follow.stays is)
 next_accounts book entry accounts others are right answer next follow (Some inverter) is =
     let within : inverter < inverters book.site = subst (λ (o : Option ℕ). IfSome o (λ i. i < inverters book.site)) is next.of_site in
-    next_named book entry accounts others are right answer next inverter is within any_account (follow.follows inverter any_account is)
+    let any = any_account accounts (omega (arith, within, are.count)) in
+    next_named book entry accounts others are right answer next inverter is within any (follow.follows inverter any is)
 
 or_false : (a b : Bool) → (a || (b || false)) ≡ (a || b)
 or_false a true = refl
@@ -210,7 +214,7 @@ numbers_of site inverter unit is = record {
 }
 
 -- a part with one more entry is behind the same entries as without it
-without_one : (before : List Entry) (part : PartRecord) (entry : Entry) → IsBehind before (with_one part entry) → IsBehind before part
+pub without_one : (before : List Entry) (part : PartRecord) (entry : Entry) → IsBehind before (with_one part entry) → IsBehind before part
 without_one before part entry is =
     subst (λ (es : List Entry). IsBehind before (record { site = part.site; start = part.start; carry = part.carry; entries = es }))
     (take-append_seam part.entries (entry ∷ [])) (IsBehind-first (with_one part entry) before (length part.entries) is)
@@ -287,6 +291,7 @@ module _ (whole other : BookRecord) (sites : other.site ≡ whole.site) (carries
       let same = same_unit inverter of_site in
       let at : now_of other ≡ now = sym (last ∙ ap (λ (carry : CarryRecord). carry.last) carries) in
       record {
+        unit = ap (λ (site : SiteRecord). slice_get site.units inverter) sites ∙ its.unit;
         link = its.link ∙ ap (λ (unit : UnitRecord). unit.link) same;
         requests = its.requests ∙ ap (λ (unit : UnitRecord). unit.sent) same;
         pending = its.pending ∙ ap (λ (unit : UnitRecord). unit.pending) same;
@@ -336,3 +341,24 @@ rolled_of part next now accounts cap stopped ledger last rolls =
       },
       at,
     )
+
+-- so is the mark of the last Cap
+pub rolled_mark : (part next : PartRecord) (mark : Option marks.CapMark) → IsBookPart part → EachBefore part (λ before. Rolls before part next)
+    → EachBook part (λ whole. mark ≡ mark_of whole) → EachBook next (λ whole. mark ≡ mark_of whole)
+rolled_mark part next mark kept rolls is_mark =
+    let first = kept.before in
+    let whole = book_behind first part in
+    let made = next_book first part in
+    subst (λ (book : PartRecord). EachBook book (λ other. mark ≡ mark_of other)) (sym (rolls first kept.behind).begins)
+    (λ before is.
+    is_mark first kept.behind
+    ∙ ap (λ (carry : CarryRecord). carry.set) (carry_is made before (carry_of whole) is refl)
+    ∙ sym (ap (λ (es : List Entry). mark_of (with_entries whole es)) (append-nil before)))
+
+-- a life without calls has none
+pub first_mark : (site : SiteRecord) (start : ℕ) (mark : Option marks.CapMark) → mark ≡ None
+    → EachBook (record { site = site; start = start; carry = None; entries = [] }) (λ whole. mark ≡ mark_of whole)
+unfolding last_that
+first_mark site start mark is before behind =
+    let none = nothing_before (record { site = site; start = start; carry = None; entries = [] }) before behind refl in
+    is ∙ subst (λ (es : List Entry). ◌≡◌ {A = Option marks.CapMark} None (mark_of (record { site = site; start = start; entries = es ++ [] }))) (sym none) refl

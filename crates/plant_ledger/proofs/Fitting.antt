@@ -18,11 +18,11 @@ use Rattle.plant_book.specs.Requests.{link_number, requests, pending_read}
 use Rattle.plant_book.specs.Writes.{is_numbered, live}
 use Rattle.plant_book.specs.Reserved.{unreserved_at}
 use Rattle.plant_book.specs.Policy.{target_at}
-use Rattle.plant_book.specs.Answer.{reply_to, reply_to_ask, reply_by_policy, reply_by_watts, reply_to_read, reply_to_saw, reply_to_back, reply_to_cap, raise_at, write_at, silent_until, is_pending, is_raw_of, reply_to_sight}
-use Rattle.plant_book.specs.Answered.{IsAnswer, with_entries}
+use Rattle.plant_book.specs.Answer.{reply_to, reply_to_ask, reply_by_policy, reply_by_watts, reply_to_read, reply_to_saw, reply_to_back, reply_to_cap, raise_at, silent_until, is_pending, is_raw_of, reply_to_sight}
+use Rattle.plant_book.specs.Answered.{IsAnswer}
 use Rattle.plant_book.proofs.Granting.{granted_is_covered}
 use Rattle.uncertain_writes.proofs.Replies.{by_cond}
-use Rattle.plant_ledger.specs.declared.account.Account.{Account}
+use Rattle.plant_ledger.specs.Account.{Account}
 use Rattle.plant_ledger.specs.Account.{IsAccount, IsReplyTo, HasRoom}
 
 -- a request is numbered by a call of its kind and its inverter, of which the link has requests left

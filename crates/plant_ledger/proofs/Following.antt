@@ -1,8 +1,7 @@
 -- An inverter's account follows the calls.
-use Rattle.std.proofs.Common.{◌≡◌, ℕ, ◌+◌, ◌<◌, ◌≤◌, Bool, true, false, cond, not, ◌||◌, eqb, leb, ltb, List, [], ◌∷◌, ◌++◌, get_or, map, Option, Some, None, refl, sym, ap, subst, ◌∙◌, arith, inl, inr}
+use Rattle.std.proofs.Common.{◌≡◌, ℕ, ◌+◌, ◌<◌, ◌≤◌, Bool, true, false, cond, eqb, [], ◌∷◌, ◌++◌, get_or, map, Option, Some, None, refl, sym, ap, subst, ◌∙◌, arith, inl, inr}
 use Rattle.std.specs.Prelude.{is_some, unwrap_or, slice_get}
-use Rattle.std.specs.List.{list_any}
-use Rattle.std.proofs.lemmas.Bool.{cases_Bool, cases_eq, eqb-true, eq-eqb, ne_eqb, leb-false}
+use Rattle.std.proofs.lemmas.Bool.{cases_Bool, eq-eqb, ne_eqb}
 use Rattle.std.proofs.lemmas.List.{get_or-map}
 use Rattle.std.proofs.lemmas.Option.{slice_get_cases}
 use Rattle.limiter_num.specs.declared.rules.Rules.{Rules}
@@ -10,7 +9,6 @@ use Rattle.plant_book.specs.declared.call.Call.{Call}
 use Rattle.plant_book.specs.declared.call.Call.TheVariants as calls
 use Rattle.plant_book.specs.declared.call.Reply.{Reply}
 use Rattle.plant_book.specs.declared.call.Reply.TheVariants as replies
-use Rattle.plant_book.specs.declared.call.Write as writes
 use Rattle.plant_book.specs.declared.call.Read as reads
 use Rattle.plant_book.specs.declared.book.Entry.{Entry}
 use Rattle.plant_book.specs.Sums.{last_that}
@@ -28,13 +26,14 @@ use Rattle.uncertain_writes.specs.Live.{is_past, without}
 use Rattle.uncertain_writes.specs.Calls.{after_reply}
 use Rattle.uncertain_writes.proofs.Pending.{PendsOwn, pending-push}
 use Rattle.uncertain_writes.proofs.Entries.{live-later, live-entry, no_live}
-use Rattle.plant_ledger.specs.declared.account.Account.{Account}
+use Rattle.plant_ledger.specs.Account.{Account}
 use Rattle.plant_ledger.specs.Account.{IsAccount, IsReplyTo, first_account, after_ask, after_read, after_saw, after_back, after_call}
 use Rattle.plant_ledger.specs.Ledger.{account_at}
 
 -- the account after one more entry, by the tests of the definitions
 abbrev after_entry : Rules → ℕ → Entry → Account → Account
 after_entry rules inverter entry account = record {
+  unit = account.unit;
   link = cond (counted.is_link inverter entry) (account.link + 1) account.link;
   requests = cond (counted.is_link inverter entry) 0 (cond (counted.is_request inverter entry) (account.requests + 1) account.requests);
   pending = cond (counted.changes_pending inverter entry) (counted.read_of entry.reply) account.pending;
@@ -98,6 +97,7 @@ module _ (book : BookRecord) (entry : Entry) (inverter : ℕ) (account : Account
   next_account : PendsOwn book.entries → IsAnswer book book.entries entry
       → IsAccount (with_entries book (book.entries ++ entry ∷ [])) (moment entry.call) inverter (after_entry book.site.rules inverter entry account)
   next_account pends answer = record {
+    unit = its.unit;
     link = sym link_next;
     requests = sym requests_next;
     pending = sym (pending-push inverter book.entries entry ∙ ap (cond (counted.changes_pending inverter entry) (counted.read_of entry.reply)) (sym its.pending));
@@ -263,6 +263,7 @@ module _ (book : BookRecord) (entry : Entry) (inverter : ℕ) (account : Account
 pub later_account : (book : BookRecord) (now later inverter : ℕ) (account : Account) → now ≤ later → IsAccount book now inverter account
     → IsAccount book later inverter (account_at book.site.rules later account)
 later_account book now later inverter account le its = record {
+  unit = its.unit;
   link = its.link;
   requests = its.requests;
   pending = its.pending;
@@ -276,6 +277,7 @@ first_of : (site : SiteRecord) (start inverter : ℕ) (unit : Inverter) → slic
     → IsAccount (record { site = site; start = start; entries = [] }) start inverter (first_account unit)
 unfolding counted.link_number counted.requests counted.pending_read rule.is_strange rule.wish last_that
 first_of site start inverter unit is = record {
+  unit = is;
   link = refl;
   requests = refl;
   pending = refl;

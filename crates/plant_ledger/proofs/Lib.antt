@@ -4,3 +4,4 @@ pub mod Following
 pub mod Kept
 pub mod Sights
 pub mod Lives
+pub mod Running

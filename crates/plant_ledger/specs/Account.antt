@@ -1,22 +1,79 @@
 -- What the ledger keeps of one inverter, and what one more entry makes of it.
-use Rattle.std.specs.Prelude.{◌≡◌, ℕ, ◌+◌, ◌<◌, ◌≤◌, true, false, List, ◌∷◌, [], ◌++◌, length, Option, Some, None}
+use Rattle.std.specs.Prelude.{◌≡◌, ℕ, ◌+◌, ◌*◌, ◌^◌, ◌<◌, ◌≤◌, Bool, true, false, if◌then◌else◌, List, ◌∷◌, [], ◌++◌, length, map, fold, max, slice_get, Option, Some, None}
+use Rattle.std.specs.List.{All}
 use Rattle.limiter_num.specs.declared.rules.Rules.{Rules}
-use Rattle.limiter_num.specs.Rating.{rated}
+use Rattle.limiter_num.specs.Rating.{mw, full, rated}
+use Rattle.share_policy.specs.declared.claim.Claim.{Claim}
 use Rattle.plant_book.specs.declared.site.Unit.{Unit as Inverter}
 use Rattle.plant_book.specs.declared.call.Call.{Call}
 use Rattle.plant_book.specs.declared.call.Call.TheVariants as calls
 use Rattle.plant_book.specs.declared.call.Reply.{Reply}
 use Rattle.plant_book.specs.declared.call.Reply.TheVariants as replies
 use Rattle.plant_book.specs.declared.call.TheConstants.{MOMENT_MAX, REQUESTS_MAX}
+use Rattle.plant_book.specs.declared.call.Write as written
+use Rattle.plant_book.specs.declared.call.Read as reads
 use Rattle.plant_book.specs.Book.{BookRecord}
+use Rattle.plant_book.specs.Part.{UnitRecord}
 use Rattle.plant_book.specs.Requests as counted
 use Rattle.plant_book.specs.Policy as rule
 use Rattle.plant_book.specs.Writes as writes
 use Rattle.uncertain_writes.specs.Live.{live_max, has_numbers, without}
-use Rattle.plant_ledger.specs.declared.account.Account.{Account}
+
+-- what contracts see of an account: the inverter, its link, its requests since then, its pending read, whether it
+-- is strange, its wish, and its live writes
+pub record Account : Type 0 where
+  pub unit : Inverter
+  pub link : ℕ
+  pub requests : ℕ
+  pub pending : Option reads.Read
+  pub strange : Bool
+  pub wish : ℕ
+  pub live : List written.Write
+
+-- the greatest of an inverter's floor and the limits of these writes, in milliwatts
+unfoldable pub most_of : Inverter → List written.Write → ℕ
+most_of unit its_writes = max (mw unit.rating unit.floor) (fold max 0 (map (λ write. mw unit.rating write.raw) its_writes))
+
+-- what is reserved for the inverter of an account, in milliwatts
+abbrev pub reserved_of : Account → ℕ
+reserved_of account = most_of account.unit account.live
+
+-- what its share goes by
+abbrev pub claim_by : Account → Claim
+claim_by account = record {
+  floor = mw account.unit.rating account.unit.floor;
+  wish = account.wish;
+  rated = if account.strange then mw account.unit.rating account.unit.floor else rated account.unit.rating;
+}
+
+-- what it leaves to the next book
+abbrev pub unit_by : Account → UnitRecord
+unit_by account = record {
+  link = account.link;
+  sent = account.requests;
+  pending = account.pending;
+  strange = account.strange;
+  wish = account.wish;
+  writes = account.live;
+}
+
+-- no write of these was granted before this moment
+abbrev pub AreFrom : ℕ → List written.Write → Type 0
+AreFrom oldest its_writes = All (λ write. oldest ≤ write.at) its_writes
+
+-- What an account keeps that follows from the inverter and its live writes.
+pub record Follows (unit : Inverter) (its_writes : List written.Write) (floor_mw raw mw_at_raw watts at : ℕ) : Type 0 where
+  pub floor : floor_mw ≡ mw unit.rating unit.floor
+  pub low : floor_mw ≤ 65535 * 10 ^ 12
+  pub top : raw ≡ full unit.rating
+  pub most : mw_at_raw ≡ rated unit.rating
+  pub reserved : watts ≡ most_of unit its_writes
+  pub below : watts ≤ 65535 * 10 ^ 12
+  pub oldest : AreFrom at its_writes
 
 -- the numbers of an inverter's account are those of the book at this moment
 pub record IsAccount (book : BookRecord) (now inverter : ℕ) (account : Account) : Type 0 where
+  pub unit : slice_get book.site.units inverter ≡ Some account.unit
   pub link : account.link ≡ counted.link_number inverter book.entries
   pub requests : account.requests ≡ counted.requests inverter book.entries
   pub pending : account.pending ≡ counted.pending_read inverter book.entries
@@ -27,6 +84,7 @@ pub record IsAccount (book : BookRecord) (now inverter : ℕ) (account : Account
 -- the account of an inverter that no call named: it wishes for its rating
 abbrev pub first_account : Inverter → Account
 first_account unit = record {
+  unit = unit;
   link = 0;
   requests = 0;
   pending = None;

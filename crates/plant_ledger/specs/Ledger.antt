@@ -1,5 +1,6 @@
 -- A book of a life and what the ledger keeps beside it.
-use Rattle.std.specs.Prelude.{◌≡◌, ℕ, ◌<◌, ◌≤◌, Bool, List, length, map, slice_index_or}
+use Rattle.std.specs.Prelude.{◌≡◌, ℕ, ◌*◌, ◌^◌, ◌<◌, ◌≤◌, Bool, if◌then◌else◌, List, length, map, sum_by, Option, Some, IfSome, slice_index_or}
+use Rattle.std.specs.List.{All}
 use Rattle.limiter_num.specs.declared.rules.Rules.{Rules}
 use Rattle.limiter_num.specs.Rating as rating
 use Rattle.plant_book.specs.declared.call.TheConstants.{MOMENT_MAX}
@@ -7,14 +8,19 @@ use Rattle.plant_book.specs.declared.site.Unit.{Unit as Inverter}
 use Rattle.plant_book.specs.Site.{SiteRecord, inverters, mw_at, floor_at, floor_raw_at, full_at, rated_at, raw_at}
 use Rattle.plant_book.specs.Book.{BookRecord}
 use Rattle.plant_book.specs.Part.{PartRecord, last_moment_of}
-use Rattle.plant_book.specs.Carry.{IsBookPart, EachBook}
-use Rattle.plant_book.specs.Caps.{cap_of}
+use Rattle.plant_book.specs.Carry.{mark_of, IsBookPart, EachBook}
+use Rattle.plant_book.specs.declared.carry.CapMark as marks
+use Rattle.plant_book.specs.declared.book.Entry.{Entry}
+use Rattle.plant_book.specs.Calls.{moment}
+use Rattle.plant_book.specs.Caps.{sets_cap, cap_of}
 use Rattle.plant_book.specs.Reserved.{now_of}
 use Rattle.plant_book.specs.Answer.{is_stopped}
 use Rattle.plant_book.specs.Answered.{IsBook}
 use Rattle.uncertain_writes.specs.Live.{is_past, without}
-use Rattle.plant_ledger.specs.declared.account.Account.{Account}
-use Rattle.plant_ledger.specs.Account.{IsAccount}
+use Rattle.share_policy.specs.Shares.{level_of}
+use Rattle.plant_book.specs.Policy.{fall_claims}
+use Rattle.plant_ledger.specs.declared.sums.Sums.{Sums}
+use Rattle.plant_ledger.specs.Account.{Account, IsAccount, AreFrom, reserved_of, claim_by}
 use Rattle.plant_ledger.specs.Plant.{IsKept}
 
 -- the last book of a life, and a moment from its last one on
@@ -55,6 +61,33 @@ pub record IsLedgerOf (part : PartRecord) (now : ℕ) (accounts : List Account) 
   pub high : now ≤ MOMENT_MAX
   pub count : length accounts ≡ inverters part.site
   pub each : EachBook part (λ whole. IsLedger whole now accounts cap stopped)
+
+-- what of all accounts is kept together
+pub record AreSums (accounts : List Account) (sums : Sums) : Type 0 where
+  pub total : sums.total ≡ sum_by reserved_of accounts
+  pub each : All (λ account. reserved_of account ≤ 65535 * 10 ^ 12) accounts
+  pub oldest : All (λ account. AreFrom sums.oldest account.live) accounts
+
+-- a level that is kept is that of the claims under the cap
+abbrev pub IsLevel : ℕ → List Account → Option ℕ → Type 0
+IsLevel cap accounts level = IfSome level (λ mw. mw ≡ level_of cap (map claim_by accounts))
+
+-- so is that of the fall shares
+abbrev pub IsFallLevel : ℕ → SiteRecord → Option ℕ → Type 0
+IsFallLevel cap site level = IfSome level (λ mw. mw ≡ level_of cap (fall_claims site))
+
+-- the mark of the last Cap that was set, after one more entry with so much reserved right after it
+abbrev pub mark_after : Option marks.CapMark → Entry → ℕ → Option marks.CapMark
+mark_after mark entry total = if sets_cap entry then Some (record { at = moment entry.call; was = total }) else mark
+
+-- All that the ledger keeps: each number is the definition's of the lives that go on in this book.
+pub record Keeps (part : PartRecord) (now : ℕ) (accounts : List Account) (together : Sums) (cap : ℕ) (stopped : Bool)
+    : Type 0 where
+  pub numbers : IsLedgerOf part now accounts cap stopped
+  pub sums : AreSums accounts together
+  pub level : IsLevel cap accounts together.level
+  pub fall : IsFallLevel cap part.site together.fall
+  pub set : EachBook part (λ whole. together.set ≡ mark_of whole)
 
 -- an account at a later moment: what is past by then is gone
 abbrev pub account_at : Rules → ℕ → Account → Account

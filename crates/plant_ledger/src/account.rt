@@ -1,14 +1,17 @@
 //! What the ledger keeps of one inverter.
-ghost use Rattle.std.specs.Prelude.{◌≡◌, ℕ, ◌+◌, ◌<◌, None};
+ghost use Rattle.std.specs.Prelude.{◌≡◌, ℕ, ◌+◌, ◌*◌, ◌^◌, ◌<◌, ◌≤◌, None, Some, not, filter};
+ghost use Rattle.limiter_num.specs.Rating.{mw, full, rated};
+ghost use Rattle.plant_book.specs.Writes.{frees};
 ghost use Rattle.plant_ledger.specs.Ledger.{account_at};
-ghost use Rattle.plant_ledger.specs.Account.{first_account, IsReplyTo, HasRoom, after_ask, after_read, after_saw, after_back, after_call};
+ghost use Rattle.plant_ledger.specs.Account.{first_account, unit_by, most_of, reserved_of, claim_by, AreFrom, HasRoom, after_ask, after_read, after_saw, after_back, after_call};
 
 use limiter_num::Rules;
-use plant_book::{Call, Entry, Read, Reply, Unit};
+use plant_book::{Call, Claim, Entry, Read, Reply, Unit, UnitCarry};
+use std::marker::Model;
 use uncertain_writes::Live;
 
 /// The account of one inverter: what the calls that named it have come to, so that no reply has to go
-/// through them.
+/// through them, and what of it is dear to compute.
 #[derive(Debug, Drop)]
 pub struct Account {
     /// The number of its link, or 0 where it had none yet.
@@ -23,6 +26,30 @@ pub struct Account {
     pub wish: u64,
     /// Its live writes.
     pub live: Live,
+    unit: Unit,
+    floor: u64,
+    full: u16,
+    rated: u64,
+    reserved: u64,
+    oldest: u64,
+}
+
+impl Model for Account {
+    ghost use Rattle.plant_ledger.specs.Account as seen;
+
+    ghost Value = { seen.Account };
+
+    ghost view = { λ a. record {
+      unit = a.unit;
+      link = a.link;
+      requests = a.requests;
+      pending = a.pending;
+      strange = a.strange;
+      wish = a.wish;
+      live = a.live;
+    } };
+
+    ghost invariant = { λ a. seen.Follows a.unit a.live a.floor a.full a.rated a.reserved a.oldest };
 }
 
 impl Account {
@@ -30,13 +57,105 @@ impl Account {
     pub fn new(unit: &Unit) -> Account
         ensures { result ≡ first_account unit.now }
     {
+        let full = unit.rating.full();
+        let rated = unit.rating.mw(full);
+        let floor = unit.rating.mw(unit.floor);
         Account {
             link: 0,
             requests: 0,
             pending: None,
             strange: false,
-            wish: unit.rating.mw(unit.rating.full()),
+            wish: rated,
             live: Live::new(),
+            unit: *unit,
+            floor,
+            full,
+            rated,
+            reserved: floor,
+            oldest: u64::MAX,
+        }
+    }
+
+    /// Its live writes.
+    pub fn live(&self) -> &Live
+        ensures { result.now ≡ self.now.live }
+    {
+        &self.live
+    }
+
+    /// Its pending read.
+    pub fn pending(&self) -> Option<Read>
+        ensures { result ≡ self.now.pending }
+    {
+        self.pending
+    }
+
+    /// What is reserved for the inverter, in mW.
+    pub fn reserved(&self) -> u64
+        ensures watts { result ≡ reserved_of self.now }
+        ensures below { result ≤ 65535 * 10 ^ 12 }
+    {
+        self.reserved
+    }
+
+    /// A moment in ms before which none of its live writes was granted.
+    pub fn oldest(&self) -> u64
+        ensures { AreFrom result self.now.live }
+    {
+        self.oldest
+    }
+
+    /// The milliwatts of its floor.
+    pub fn floor(&self) -> u64
+        ensures watts { result ≡ mw self.now.unit.rating self.now.unit.floor }
+        ensures below { result ≤ 65535 * 10 ^ 12 }
+    {
+        self.floor
+    }
+
+    /// Its greatest raw percentage.
+    pub fn full(&self) -> u16
+        ensures { result ≡ full self.now.unit.rating }
+    {
+        self.full
+    }
+
+    /// The milliwatts of its greatest raw percentage.
+    pub fn rated(&self) -> u64
+        ensures { result ≡ rated self.now.unit.rating }
+    {
+        self.rated
+    }
+
+    /// The inverter.
+    pub fn unit(&self) -> &Unit
+        ensures { result.now ≡ self.now.unit }
+    {
+        &self.unit
+    }
+
+    /// What its share goes by.
+    pub fn claim(&self) -> Claim
+        ensures { result ≡ claim_by self.now }
+    {
+        Claim {
+            floor: self.floor,
+            wish: self.wish,
+            rated: if self.strange { self.floor } else { self.rated },
+        }
+    }
+
+    /// What it leaves to the next book of the life.
+    pub fn carry(&self) -> UnitCarry
+        ensures { result ≡ unit_by self.now }
+    {
+        UnitCarry {
+            link: self.link,
+            sent: self.requests,
+            pending: self.pending,
+            strange: self.strange,
+            wish: self.wish,
+            writes: self.live.writes(),
         }
     }
 
@@ -44,7 +163,12 @@ impl Account {
     pub fn expire(&mut self, rules: &Rules, now: u64)
         ensures { self.new ≡ account_at rules.now now self.old }
     {
+        if now <= self.oldest.saturating_add(rules.reach()) {
+            return;
+        }
         let _ = self.live.expire(rules, now);
+        self.oldest = self.live.oldest();
+        self.reserved = covering(&self.unit, self.floor, &self.live);
     }
 
     /// Follows one more entry, which names the inverter. What is past by its moment has to be gone.
@@ -82,6 +206,9 @@ impl Account {
     {
         if let Reply::Granted(write) = *reply {
             self.requests += 1;
+            let limit = self.unit.rating.mw(write.raw);
+            self.reserved = self.reserved.max(limit);
+            self.oldest = self.oldest.min(write.at);
             let added = self.live.add(write);
             prove!(added.is_ok());
         }
@@ -117,10 +244,20 @@ impl Account {
         ensures { self.new ≡ after_saw rules.now raw (Reply.Freed 0 0) self.old }
     {
         if let Some(read) = self.pending {
-            let _ = self.live.seen(rules, &read, raw);
+            self.settle(rules, &read, raw);
         }
         self.pending = None;
         self.strange = false;
+    }
+
+    /// Drops the writes that a read frees which showed this raw percentage.
+    fn settle(&mut self, rules: &Rules, read: &Read, raw: u16)
+        ensures { self.new ≡ record self.old
+            { live = filter (λ write. not (frees rules.now (Some read.now) raw write)) self.old.live } }
+    {
+        let _ = self.live.seen(rules, read, raw);
+        self.oldest = self.live.oldest();
+        self.reserved = covering(&self.unit, self.floor, &self.live);
     }
 
     /// A write that was given back is live no more.
@@ -129,6 +266,19 @@ impl Account {
     {
         if *reply == Reply::Taken {
             let _ = self.live.drop_unsent(link, number);
+            self.oldest = self.live.oldest();
+            self.reserved = covering(&self.unit, self.floor, &self.live);
         }
     }
+}
+
+/// The greatest of an inverter's floor and the limits of these writes, in mW.
+#[tactic(auto, unfolding(crate::specs::Account::most_of))]
+pub fn covering(unit: &Unit, floor: u64, live: &Live) -> u64
+    requires floor { floor ≡ mw unit.now.rating unit.now.floor }
+    requires low { floor ≤ 65535 * 10 ^ 12 }
+    ensures watts { result ≡ most_of unit.now live.now }
+    ensures below { result ≤ 65535 * 10 ^ 12 }
+{
+    floor.max(live.greatest(&unit.rating))
 }

@@ -9,6 +9,18 @@ ghost use Rattle.plant_ledger.specs.Plant.{entered, GoesOn};
 use crate::ledger::Ledger;
 use plant_book::{Call, Entry, MOMENT_MAX, Reply};
 
+/// Goes on to the moment of a call, which isn't earlier, and makes what its reply needs.
+fn go_on(ledger: &mut Ledger, call: &Call)
+    requires later { ledger.old.at ≤ moment call.now }
+    requires high { moment call.now ≤ MOMENT_MAX }
+    ensures { ledger.new ≡ record ledger.old { at = moment call.now } }
+{
+    ledger.advance(call.at());
+    if matches!(call, Call::Ask { .. }) {
+        ledger.make_levels();
+    }
+}
+
 /// Enters a call into a book that has room for it.
 pub fn enter(ledger: &mut Ledger, call: Call) -> Reply
     requires kept { IsAtLast ledger.old }
@@ -22,7 +34,7 @@ pub fn enter(ledger: &mut Ledger, call: Call) -> Reply
     ensures kept { IsAtLast ledger.new }
 {
     let call = call.at_moment(call.at().max(ledger.now()));
-    ledger.advance(call.at());
+    go_on(ledger, &call);
     let reply = ledger.answer(&call);
     ledger.enter(Entry { call, reply });
     reply

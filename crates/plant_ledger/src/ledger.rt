@@ -1,21 +1,28 @@
 //! A book, and the account of each inverter.
 ghost use Rattle.std.specs.Prelude.{◌≡◌, ℕ, ◌<◌, ◌≤◌, ◌^◌, ◌||◌, ◌⊎◌, if◌then◌else◌, [], ◌∷◌, ◌++◌, length, map, Some, None, IfOk, IfErr, IfSome, OnOk, OnErr, slice_get, slice_set, slice_index_or};
-ghost use Rattle.plant_book.specs.Site.{inverters, floors};
+ghost use Rattle.plant_book.specs.Site.{inverters, floors, full_at};
 ghost use Rattle.plant_book.specs.Caps.{sets_cap, cap_by, cap_of};
 ghost use Rattle.plant_book.specs.Calls.{moment, named};
 ghost use Rattle.plant_book.specs.Answer.{silent_until, stops, is_stopped};
 ghost use Rattle.plant_book.specs.Answered.{IsOpenable, IsNext, IsAnswer};
+ghost use Rattle.plant_book.specs.Reserved as sums;
+ghost use Rattle.plant_book.specs.Policy as rule;
+ghost use Rattle.share_policy.specs.Shares.{level_of};
 ghost use Rattle.plant_book.specs.Part.{begin_of, calls_of, book_behind};
-ghost use Rattle.plant_book.specs.Carry.{IsBookPart, EachBefore, EachBook};
-ghost use Rattle.plant_ledger.specs.declared.account.Account.{Account as Kept};
-ghost use Rattle.plant_ledger.specs.Account.{IsAccount, HasRoom, first_account, after_call};
-ghost use Rattle.plant_ledger.specs.Ledger.{IsUnit, IsAtLast, account_at};
+ghost use Rattle.plant_book.specs.Carry.{mark_of, units_of, IsBookPart, EachBefore, EachBook};
+ghost use Rattle.plant_ledger.specs.Account.{Account as Kept};
+ghost use Rattle.plant_ledger.specs.Account.{IsAccount, HasRoom, first_account, after_call, unit_by};
+ghost use Rattle.plant_ledger.specs.Ledger.{IsUnit, IsAtLast, AreSums, IsLevel, account_at};
 ghost use Rattle.plant_ledger.specs.Plant.{with_one, Rolls, IsFullLife};
 
 use crate::account::Account;
 use crate::rolling::{RollFault, next_book};
+use crate::sums::{Sums, gather};
 use limiter_num::{NoMemory, Rules};
-use plant_book::{Book, CALLS_MAX, Call, Entry, MOMENT_MAX, Policy, Reply, Site, Unit};
+use plant_book::{
+    Book, CALLS_MAX, Call, CapMark, Entry, MOMENT_MAX, Policy, Reply, Site, Unit, UnitCarry,
+};
+use share_policy::level;
 use std::alloc::Global;
 use std::marker::Model;
 use std::mem;
@@ -27,18 +34,19 @@ pub struct Ledger {
     book: Book,
     moment: u64,
     accounts: Vec<Account>,
+    sums: Sums,
     cap: u64,
     stopped: bool,
 }
 
 impl Model for Ledger {
-    ghost use Rattle.plant_ledger.specs.Ledger.{LedgerRecord, IsLedgerOf};
+    ghost use Rattle.plant_ledger.specs.Ledger.{LedgerRecord, Keeps};
 
     ghost Value = { LedgerRecord };
 
     ghost view = { λ l. record { book = l.book; at = l.moment } };
 
-    ghost invariant = { λ l. IsLedgerOf l.book l.moment l.accounts.items l.cap l.stopped };
+    ghost invariant = { λ l. Keeps l.book l.moment l.accounts.items l.sums l.cap l.stopped };
 }
 
 impl Ledger {
@@ -52,12 +60,14 @@ impl Ledger {
         }) }
     {
         let accounts = first_accounts(alloc, &site.units)?;
+        let sums = gather(&accounts);
         let cap = site.cap;
         let book = Book::new(alloc, site, start, None)?;
         Ok(Ledger {
             book,
             moment: start,
             accounts,
+            sums,
             cap,
             stopped: false,
         })
@@ -70,7 +80,14 @@ impl Ledger {
         ensures { self.new ≡ record self.old { at = now } }
     {
         let rules = rules_of(&self.book);
+        if now <= self.sums.oldest.saturating_add(rules.reach()) {
+            self.moment = now;
+            return;
+        }
         expire(&mut self.accounts, &rules, now);
+        let sums = gather(&self.accounts);
+        self.sums.total = sums.total;
+        self.sums.oldest = sums.oldest;
         self.moment = now;
     }
 
@@ -85,8 +102,10 @@ impl Ledger {
         ensures { self.new ≡ record { book = with_one self.old.book entry; at = self.old.at } }
     {
         let rules = rules_of(&self.book);
-        follow(&mut self.accounts, &rules, &entry);
-        self.cap = cap_after(self.cap, &entry);
+        let cap = cap_after(self.cap, &entry);
+        let sums = follow(&mut self.accounts, self.sums, &rules, &entry);
+        self.sums = sums.under(self.cap, cap).marked(&entry);
+        self.cap = cap;
         self.stopped = is_stopped_after(self.stopped, &entry.call);
         self.book.push(entry);
     }
@@ -105,7 +124,7 @@ impl Ledger {
         ensures unchanged { OnErr result (self.new ≡ self.old) }
         ensures kept { IsAtLast self.new }
     {
-        let next = next_book(alloc, &self.book)?;
+        let next = next_book(alloc, self)?;
         Ok(mem::replace(&mut self.book, next))
     }
 
@@ -155,6 +174,21 @@ impl Ledger {
         site_cap_of(&self.book)
     }
 
+    /// The last Cap of the life that was set.
+    pub fn mark(&self) -> Option<CapMark>
+        ensures { EachBook self.now.book (λ whole. result ≡ mark_of whole) }
+    {
+        self.sums.set
+    }
+
+    /// What the books up to this one leave of all inverters, by their numbers.
+    pub fn units(&self, alloc: Global) -> Result<Vec<UnitCarry>, NoMemory>
+        requires { IsAtLast self.now }
+        ensures { IfOk result (λ units. EachBook self.now.book (λ whole. units.items ≡ units_of whole)) }
+    {
+        units_by(alloc, &self.accounts)
+    }
+
     /// The milliwatts of all floors.
     pub fn floors(&self) -> u64
         ensures { result ≡ floors self.now.book.site }
@@ -179,6 +213,62 @@ impl Ledger {
         self.moment
     }
 
+    /// What is reserved in all, in mW.
+    pub fn total(&self) -> u64
+        ensures { EachBook self.now.book (λ whole. result ≡ sums.total_at whole self.now.at) }
+    {
+        self.sums.total
+    }
+
+    /// The level of the fair shares, in mW.
+    pub fn level(&self) -> u64
+        ensures { EachBook self.now.book (λ whole. result ≡ level_of (cap_of whole) (rule.claims whole)) }
+    {
+        match self.sums.level {
+            Some(level) => level,
+            None => level(self.cap(), self.claims().as_slice()),
+        }
+    }
+
+    /// The level of the fall shares, in mW.
+    pub fn fall_level(&self) -> u64
+        ensures { EachBook self.now.book
+            (λ whole. result ≡ level_of (cap_of whole) (rule.fall_claims whole.site)) }
+    {
+        match self.sums.fall {
+            Some(level) => level,
+            None => level(self.cap(), self.fall_claims().as_slice()),
+        }
+    }
+
+    /// Makes the levels that replies need from here on.
+    pub fn make_levels(&mut self)
+        ensures { self.new ≡ self.old }
+    {
+        if self.policy() == Policy::Fair {
+            self.make_level();
+        }
+        if self.total() > self.cap() {
+            self.make_fall_level();
+        }
+    }
+
+    /// Makes the level of the fair shares.
+    fn make_level(&mut self)
+        ensures { self.new ≡ self.old }
+    {
+        let made = self.level();
+        self.sums.level = Some(made);
+    }
+
+    /// Makes the level of the fall shares.
+    fn make_fall_level(&mut self)
+        ensures { self.new ≡ self.old }
+    {
+        let made = self.fall_level();
+        self.sums.fall = Some(made);
+    }
+
     /// The inverter of this number.
     pub fn unit(&self, inverter: u8) -> &Unit
         requires { inverter < inverters self.now.book.site }
@@ -188,10 +278,19 @@ impl Ledger {
         unit_of(&self.book, inverter)
     }
 
+    /// The greatest raw percentage of the inverter.
+    pub fn full(&self, inverter: u8) -> u16
+        requires { inverter < inverters self.now.book.site }
+        ensures { result ≡ full_at self.now.book.site inverter }
+    {
+        self.account(inverter).full()
+    }
+
     /// The account of the inverter.
     pub fn account(&self, inverter: u8) -> &Account
         requires { inverter < inverters self.now.book.site }
         ensures account { EachBook self.now.book (λ whole. IsAccount whole self.now.at inverter result.now) }
+        ensures unit { slice_get self.now.book.site.units inverter ≡ Some result.now.unit }
         ensures links { calls_of self.now.book < CALLS_MAX → result.now.link < 4294967295 }
     {
         &self.accounts[usize::from(inverter)]
@@ -251,6 +350,19 @@ fn first_accounts(alloc: Global, units: &[Unit]) -> Result<Vec<Account>, NoMemor
     Ok(accounts)
 }
 
+/// What these accounts leave to the next book.
+fn units_by(alloc: Global, accounts: &[Account]) -> Result<Vec<UnitCarry>, NoMemory>
+    ensures { IfOk result (λ units. units.items ≡ map unit_by accounts.now) }
+{
+    let Ok(mut units) = Vec::with_capacity(alloc, accounts.len()) else {
+        return Err(NoMemory);
+    };
+    for account in accounts {
+        units.push_reserved(account.carry());
+    }
+    Ok(units)
+}
+
 /// Drops the writes of all accounts that are past by this moment, in ms.
 fn expire(accounts: &mut [Account], rules: &Rules, now: u64)
     ensures { accounts.new ≡ map (account_at rules.now now) accounts.old }
@@ -260,8 +372,10 @@ fn expire(accounts: &mut [Account], rules: &Rules, now: u64)
     }
 }
 
-/// The account of the inverter that one more entry names follows it.
-fn follow(accounts: &mut [Account], rules: &Rules, entry: &Entry)
+/// The account of the inverter that one more entry names follows it, and so do the numbers of all accounts.
+fn follow(accounts: &mut [Account], sums: Sums, rules: &Rules, entry: &Entry) -> Sums
+    requires few { length accounts.old ≤ 64 }
+    requires sums { AreSums accounts.old sums }
     requires within { IfSome (named entry.now.call) (λ inverter. inverter < length accounts.old) }
     requires links { (inverter : ℕ) (otherwise : Kept) → named entry.now.call ≡ Some inverter
         → (slice_index_or accounts.old inverter otherwise).link < 4294967295 }
@@ -272,10 +386,28 @@ fn follow(accounts: &mut [Account], rules: &Rules, entry: &Entry)
         (after_call rules.now entry.now.call entry.now.reply
         (slice_index_or accounts.old inverter otherwise)) }
     ensures unnamed { named entry.now.call ≡ None → accounts.new ≡ accounts.old }
+    ensures sums { AreSums accounts.new result }
+    ensures level { (cap : ℕ) → IsLevel cap accounts.old sums.level → IsLevel cap accounts.new result.level }
+    ensures fall { result.fall ≡ sums.fall }
+    ensures set { result.set ≡ sums.set }
 {
-    if let Some(inverter) = entry.call.inverter() {
-        let account = &mut accounts[usize::from(inverter)];
-        account.follow(rules, entry);
+    let Some(inverter) = entry.call.inverter() else {
+        return sums;
+    };
+    let account = &mut accounts[usize::from(inverter)];
+    let claim = account.claim();
+    let reserved = account.reserved();
+    account.follow(rules, entry);
+    Sums {
+        total: sums.total - reserved + account.reserved(),
+        oldest: sums.oldest.min(account.oldest()),
+        level: if account.claim() == claim {
+            sums.level
+        } else {
+            None
+        },
+        fall: sums.fall,
+        set: sums.set,
     }
 }
 

@@ -5,6 +5,7 @@
 #![tactic(auto)]
 
 mod account;
+mod ceiling;
 mod entering;
 mod ledger;
 mod opening;
@@ -13,6 +14,7 @@ mod replies;
 mod reserved;
 mod rolling;
 mod shares;
+mod sums;
 mod ticket;
 
 pub use opening::OpenFault;

@@ -20,7 +20,7 @@ use crate::opening::{OpenFault, refuse};
 use crate::rolling::RollFault;
 use crate::ticket::{Ticket, ticket_with};
 use limiter_num::NoMemory;
-use plant_book::{Book, Call, Carry, Entry, MOMENT_MAX, Reply, Site, Write, ceiling_plain};
+use plant_book::{Book, Call, Carry, Entry, MOMENT_MAX, Reply, Site, Write};
 use std::alloc::Global;
 use std::marker::Model;
 
@@ -251,7 +251,7 @@ impl Plant {
     pub fn ceiling(&self) -> u64
         ensures { EachBook self.now (λ whole. result ≡ ceiling whole) }
     {
-        ceiling_plain(self.ledger.book())
+        self.ledger.ceiling()
     }
 
     /// What of the cap in force isn't reserved at the last moment, in mW: 0 where more than it is reserved.

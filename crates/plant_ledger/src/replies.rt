@@ -7,8 +7,8 @@ ghost use Rattle.plant_book.specs.Part.{last_moment_of, calls_of};
 ghost use Rattle.plant_book.specs.Carry.{EachBook};
 ghost use Rattle.plant_book.specs.Answer as rule;
 
+use crate::account::covering;
 use crate::ledger::Ledger;
-use crate::reserved::covering;
 use plant_book::{CALLS_MAX, Call, REQUESTS_MAX, Read, Reply, Unit, Write};
 use uncertain_writes::Live;
 
@@ -88,8 +88,7 @@ impl Ledger {
         ensures { EachBook self.now.book
             (λ whole. result ≡ rule.reply_by_policy whole self.now.at write.now.inverter write.now.raw) }
     {
-        let rating = &self.unit(write.inverter).rating;
-        let full = rating.full();
+        let full = self.full(write.inverter);
         if write.raw > full {
             return Reply::Over(full);
         }
@@ -97,6 +96,7 @@ impl Ledger {
         if self.now() <= silent_until {
             return Reply::Silent(silent_until);
         }
+        let rating = &self.unit(write.inverter).rating;
         let target = self.target(write.inverter);
         if rating.mw(write.raw) > target {
             return Reply::NotAllowed(rating.raw_at_most(target));
@@ -120,7 +120,7 @@ impl Ledger {
         if reserved.max(limit) - reserved > unreserved {
             return Reply::NoWatts(unreserved);
         }
-        if self.account(write.inverter).live.is_full() {
+        if self.account(write.inverter).live().is_full() {
             return Reply::Crowded;
         }
         Reply::Granted(*write)
@@ -153,7 +153,8 @@ impl Ledger {
         ensures { EachBook self.now.book
             (λ whole. result ≡ rule.reply_to_saw whole self.now.at inverter number raw) }
     {
-        match self.account(inverter).pending {
+        let pending = self.account(inverter).pending();
+        match pending {
             Some(read) if read.number == number => self.reply_to_sight(inverter, &read, raw),
             _ => Reply::NoRead,
         }
@@ -167,14 +168,15 @@ impl Ledger {
             result ≡ rule.reply_to_sight whole.site inverter (Some read.now) raw
             (live whole.site.rules whole.entries self.now.at inverter)) }
     {
-        let live = &self.account(inverter).live;
+        let account = self.account(inverter);
+        let live = account.live();
         if !is_known(self.unit(inverter), live, raw) {
             return Reply::Strange(raw);
         }
         let left = live.left_by(&self.rules(), read, raw);
         Reply::Freed {
             count: live.len() - left.len(),
-            reserved: covering(self.unit(inverter), &left),
+            reserved: covering(account.unit(), account.floor(), &left),
         }
     }
 
@@ -184,7 +186,7 @@ impl Ledger {
         ensures { EachBook self.now.book
             (λ whole. result ≡ rule.reply_to_back whole self.now.at inverter link number) }
     {
-        if self.account(inverter).live.holds(link, number) {
+        if self.account(inverter).live().holds(link, number) {
             Reply::Taken
         } else {
             Reply::NoWrite

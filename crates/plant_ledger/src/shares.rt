@@ -1,36 +1,27 @@
 //! What the policy allows, by the accounts.
-ghost use Rattle.std.specs.Prelude.{◌≡◌, ◌<◌, if◌then◌else◌};
-ghost use Rattle.limiter_num.specs.Rating.{mw, rated};
+ghost use Rattle.std.specs.Prelude.{◌≡◌, ◌<◌};
 ghost use Rattle.plant_book.specs.Site.{inverters};
 ghost use Rattle.plant_book.specs.Caps.{cap_of};
 ghost use Rattle.plant_book.specs.Carry.{IsBookPart, EachBook};
 ghost use Rattle.share_policy.specs.Claims.{IsFeasible};
 ghost use Rattle.plant_book.specs.Policy as rule;
 
-use crate::account::Account;
 use crate::ledger::Ledger;
 use arrayvec::ArrayVec;
-use plant_book::{Claim, INVERTERS_MAX, Policy, Unit};
-use share_policy::level;
+use plant_book::{Claim, INVERTERS_MAX, Policy};
+use share_policy::target;
 
 impl Ledger {
     /// What the share of the inverter goes by.
-    #[tactic(auto, unfolding(plant_book::specs::Policy::trusted))]
     fn claim(&self, inverter: u8) -> Claim
         requires { inverter < inverters self.now.book.site }
         ensures { EachBook self.now.book (λ whole. result ≡ rule.claim_of whole inverter) }
     {
-        let unit = self.unit(inverter);
-        let account = self.account(inverter);
-        Claim {
-            floor: unit.rating.mw(unit.floor),
-            wish: account.wish,
-            rated: trusted(unit, account),
-        }
+        self.account(inverter).claim()
     }
 
     /// The claims of all inverters in the order of their numbers.
-    fn claims(&self) -> ArrayVec<Claim, INVERTERS_MAX>
+    pub fn claims(&self) -> ArrayVec<Claim, INVERTERS_MAX>
         ensures claims { EachBook self.now.book (λ whole. result.items ≡ rule.claims whole) }
         ensures feasible { EachBook self.now.book (λ whole. IsFeasible (cap_of whole) (rule.claims whole)) }
         ensures of_life { IsBookPart self.now.book }
@@ -51,10 +42,7 @@ impl Ledger {
         let claim = self.claim(inverter);
         match self.policy() {
             Policy::Open => claim.rated,
-            Policy::Fair => {
-                let level = level(self.cap(), self.claims().as_slice());
-                share_policy::target(Policy::Fair, level, &claim)
-            }
+            Policy::Fair => target(Policy::Fair, self.level(), &claim),
         }
     }
 
@@ -63,17 +51,17 @@ impl Ledger {
         requires { inverter < inverters self.now.book.site }
         ensures { result ≡ rule.fall_claim self.now.book.site inverter }
     {
-        let unit = self.unit(inverter);
-        let rated = unit.rating.mw(unit.rating.full());
+        let account = self.account(inverter);
+        let rated = account.rated();
         Claim {
-            floor: unit.rating.mw(unit.floor),
+            floor: account.floor(),
             wish: rated,
             rated,
         }
     }
 
     /// The same of all inverters in the order of their numbers.
-    fn fall_claims(&self) -> ArrayVec<Claim, INVERTERS_MAX>
+    pub fn fall_claims(&self) -> ArrayVec<Claim, INVERTERS_MAX>
         ensures claims { result.items ≡ rule.fall_claims self.now.book.site }
         ensures feasible { EachBook self.now.book
             (λ whole. IsFeasible (cap_of whole) (rule.fall_claims whole.site)) }
@@ -93,8 +81,7 @@ impl Ledger {
         ensures { EachBook self.now.book
             (λ whole. result ≡ rule.fall_share whole.site (cap_of whole) inverter) }
     {
-        let level = level(self.cap(), self.fall_claims().as_slice());
-        share_policy::target(Policy::Fair, level, &self.fall_claim(inverter))
+        target(Policy::Fair, self.fall_level(), &self.fall_claim(inverter))
     }
 
     /// The greatest limit that the inverter may ask for, in mW.
@@ -103,23 +90,11 @@ impl Ledger {
         requires { inverter < inverters self.now.book.site }
         ensures { EachBook self.now.book (λ whole. result ≡ rule.target_at whole self.now.at inverter) }
     {
-        let target = self.policy_target(inverter);
+        let most = self.policy_target(inverter);
         if self.total() > self.cap() {
-            target.min(self.fall_share(inverter))
+            most.min(self.fall_share(inverter))
         } else {
-            target
+            most
         }
-    }
-}
-
-/// The rating that the policy goes by, in mW: the floor for a strange inverter.
-fn trusted(unit: &Unit, account: &Account) -> u64
-    ensures { result ≡ (if account.now.strange then mw unit.now.rating unit.now.floor
-        else rated unit.now.rating) }
-{
-    if account.strange {
-        unit.rating.mw(unit.floor)
-    } else {
-        unit.rating.mw(unit.rating.full())
     }
 }

@@ -1,5 +1,5 @@
 -- Fair shares: each claim gets its floor, and above it the least of its wish, its rating and one level for all.
-use Rattle.std.specs.Prelude.{ℕ, nat_le, min, max, List, sum_by}
+use Rattle.std.specs.Prelude.{ℕ, Bool, ◌&&◌, nat_le, nat_lt, min, max, List, sum_by}
 use Rattle.limiter_num.specs.Greatest.{greatest_up_to}
 use Rattle.share_policy.specs.declared.claim.Policy.{Policy}
 use Rattle.share_policy.specs.declared.claim.Policy.TheVariants as policies
@@ -8,6 +8,10 @@ use Rattle.share_policy.specs.declared.claim.Claim.{Claim}
 -- the fair share of a claim at a level
 unfoldable pub share_at : ℕ → Claim → ℕ
 share_at level claim = max claim.floor (min claim.wish (min claim.rated level))
+
+-- whether the fair share of a claim is greater at the next level
+abbrev pub rises : ℕ → Claim → Bool
+rises level claim = nat_le claim.floor level && nat_lt level claim.wish && nat_lt level claim.rated
 
 -- the greatest level from 0 to the cap at which the fair shares of all claims sum to at most the cap
 unfoldable pub level_of : ℕ → List Claim → ℕ

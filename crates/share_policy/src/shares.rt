@@ -1,6 +1,6 @@
 //! The level and the targets.
-ghost use Rattle.std.specs.Prelude.{◌≡◌, ◌+◌, ◌<◌, ◌≤◌, ◌^◌, sum_by};
-ghost use Rattle.share_policy.specs.Shares.{share_at, level_of, target_of};
+ghost use Rattle.std.specs.Prelude.{◌≡◌, ◌+◌, ◌<◌, ◌≤◌, ◌^◌, sum_by, count_by};
+ghost use Rattle.share_policy.specs.Shares.{share_at, rises, level_of, target_of};
 ghost use Rattle.share_policy.specs.Claims.{IsFeasible};
 ghost use Rattle.share_policy.specs.Fairness.{IsMaxMinFair};
 
@@ -20,15 +20,58 @@ pub fn level(cap: u64, claims: &[Claim]) -> u64
 {
     let mut low = 0;
     let mut high = cap;
+    let mut guess = cap / (claims.len() as u64).max(1);
     while low < high {
-        let middle = high - (high - low) / 2;
-        if total_at(middle, claims) <= cap {
+        let middle = between(low, high, guess);
+        let total = total_at(middle, claims);
+        guess = straight(cap, claims, middle, total);
+        if total <= cap {
             low = middle;
         } else {
             high = middle - 1;
         }
     }
     low
+}
+
+/// The number above the first and up to the second that is nearest to a guess.
+fn between(low: u64, high: u64, guess: u64) -> u64
+    requires { low < high }
+    ensures above { low < result }
+    ensures within { result ≤ high }
+{
+    guess.max(low + 1).min(high)
+}
+
+/// Where the targets would sum to the cap if from this level on, at which they sum to this total, just the claims
+/// rose or fell that do there. It is a guess, for speed: the level is found whatever it is.
+fn straight(cap: u64, claims: &[Claim], level: u64, total: u64) -> u64 {
+    let below = level.saturating_sub(1);
+    if total <= cap {
+        match rising(level, claims) {
+            0 => cap,
+            count => level.saturating_add((cap - total) / count),
+        }
+    } else {
+        match rising(below, claims) {
+            0 => level / 2,
+            count => below.saturating_sub((total - cap - 1) / count),
+        }
+    }
+}
+
+/// How many claims have a greater target at the next level.
+fn rising(level: u64, claims: &[Claim]) -> u64
+    ensures { result ≡ count_by (rises level) claims.now }
+{
+    claims.iter().filter(|claim| rises(level, claim)).count() as u64
+}
+
+/// Whether the target of a claim is greater at the next level.
+fn rises(level: u64, claim: &Claim) -> bool
+    ensures { result ≡ rises level claim.now }
+{
+    claim.floor <= level && level < claim.wish && level < claim.rated
 }
 
 /// The most that the policy allows a claim, in mW, where the level of the fair shares is this one, in mW too.

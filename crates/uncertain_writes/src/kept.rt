@@ -85,6 +85,20 @@ impl Kept {
         self.write.link == link && self.write.number == number
     }
 
+    /// The write.
+    pub fn write(&self) -> Write
+        ensures { result ≡ self.now }
+    {
+        self.write
+    }
+
+    /// The moment of the write, in ms.
+    pub fn at(&self) -> u64
+        ensures { result ≡ self.now.at }
+    {
+        self.write.at
+    }
+
     /// The raw percentage of the write.
     pub fn raw(&self) -> u16
         ensures { result ≡ self.now.raw }

@@ -1,6 +1,6 @@
 //! The list of live writes.
 ghost use Rattle.std.specs.Prelude.{◌≡◌, ◌+◌, ◌*◌, ◌^◌, ◌≤◌, ◌<◌, ◌↔◌, nat_le, [], ◌∷◌, ◌++◌, Some, List, length, filter, fold, map, max, IsOk, OnOk, OnErr, IfErr};
-ghost use Rattle.std.specs.List.{list_any};
+ghost use Rattle.std.specs.List.{All, list_any};
 ghost use Rattle.limiter_num.specs.Rating.{mw};
 ghost use Rattle.plant_book.specs.Writes.{frees};
 ghost use Rattle.uncertain_writes.specs.Live.{live_max, moment_max, is_past, has_numbers, has_raw, without};
@@ -130,6 +130,20 @@ impl Live {
     {
         greatest(self.writes.as_slice(), rating)
     }
+
+    /// The writes.
+    pub fn writes(&self) -> ArrayVec<Write, LIVE_MAX>
+        ensures { result.items ≡ self.now }
+    {
+        writes(self.writes.as_slice())
+    }
+
+    /// The earliest moment of a write of the list in ms, or the greatest number where there is none.
+    pub fn oldest(&self) -> u64
+        ensures { All (λ write. result ≤ write.at) self.now }
+    {
+        oldest(self.writes.as_slice())
+    }
 }
 
 fn drop_past(writes: &mut Writes, rules: &Rules, now: u64) -> u8
@@ -193,4 +207,25 @@ fn greatest(writes: &[Kept], rating: &Rating) -> u64
         most = most.max(rating.mw(kept.raw()));
     }
     most
+}
+
+fn writes(kept: &[Kept]) -> ArrayVec<Write, LIVE_MAX>
+    requires { length kept.now ≤ live_max }
+    ensures { result.items ≡ kept.now }
+{
+    let mut writes = ArrayVec::new();
+    for one in kept {
+        writes.push(one.write());
+    }
+    writes
+}
+
+fn oldest(writes: &[Kept]) -> u64
+    ensures { All (λ write. result ≤ write.at) writes.now }
+{
+    let mut oldest = u64::MAX;
+    for write in writes {
+        oldest = oldest.min(write.at());
+    }
+    oldest
 }

@@ -1,5 +1,5 @@
 -- The entry is the call as it is entered with its reply, and each life goes on with it.
-use Rattle.std.proofs.Common.{◌≡◌, ℕ, ◌<◌, ◌++◌, ◌∷◌, [], length, sym, ap, subst, ◌∙◌, arith}
+use Rattle.std.proofs.Common.{◌≡◌, ◌<◌, length, sym, ap, subst, ◌∙◌, arith}
 use Rattle.std.proofs.lemmas.List.{length_push}
 use Rattle.plant_book.specs.declared.call.Call.{Call}
 use Rattle.plant_book.specs.declared.book.Entry.{Entry}
@@ -7,7 +7,7 @@ use Rattle.plant_book.specs.declared.carry.TheConstants.{CALLS_MAX}
 use Rattle.plant_book.specs.Calls as parts
 use Rattle.plant_book.specs.Answer.{reply_to}
 use Rattle.plant_book.specs.Answered.{IsNext}
-use Rattle.plant_book.specs.Part.{PartRecord, begin_of, calls_of, book_behind, last_moment_of}
+use Rattle.plant_book.specs.Part.{PartRecord, begin_of, calls_of, book_behind}
 use Rattle.plant_book.specs.Carry.{IsBookPart, EachBook, EachBefore}
 use Rattle.plant_book.proofs.Steps.{latest-push}
 use Rattle.plant_ledger.specs.Ledger.{LedgerRecord, IsAtLast}
@@ -21,14 +21,14 @@ few_calls ledger at_last room = omega (arith, at_last.kept.calls, room)
 
 pub answer-reply-requires-clause-life : goal.answer-reply-requires-clause-life
 answer-reply-requires-clause-life c =
-    subst (λ (ledger : LedgerRecord). calls_of ledger.book < CALLS_MAX) (sym c.advance.ensures) (few_calls c.args.ledger.now c.requires.kept c.requires.room)
+    subst (λ (ledger : LedgerRecord). calls_of ledger.book < CALLS_MAX) (sym c.go_on.ensures) (few_calls c.args.ledger.now c.requires.kept c.requires.room)
 
 pub enter-requires-clause-next : goal.enter-requires-clause-next
 enter-requires-clause-next c =
     let part = c.args.ledger.now.book in
     let life = c.requires.kept.kept.of_life in
     let is = entered-is part c.args.call c.at_moment-call.result c.max.result c.at.result c.now.result c.at.ensures (c.now.ensures.now ∙ c.requires.kept.last) c.max.ensures c.at_moment-call.ensures in
-    subst (λ (ledger : LedgerRecord). IsNext ledger.book.site (begin_of ledger.book) ledger.book.entries c.at_moment-call.result) (sym c.advance.ensures)
+    subst (λ (ledger : LedgerRecord). IsNext ledger.book.site (begin_of ledger.book) ledger.book.entries c.at_moment-call.result) (sym c.go_on.ensures)
     (subst (λ (moved : Call). IsNext part.site (begin_of part) part.entries moved) (sym is) (part_next part life.before c.args.call life.behind c.requires.moment c.requires.of_site c.requires.in_range))
 
 module _ (c : goal.After-enter) where
@@ -38,7 +38,7 @@ module _ (c : goal.After-enter) where
   written : c.enter.new.self ≡ record { book = with_one c.args.ledger.now.book (record { call = c.at_moment-call.result; reply = c.answer-reply.result }); at = parts.moment c.at_moment-call.result }
   written =
       let after : LedgerRecord → LedgerRecord = λ ledger. record { book = with_one ledger.book (record { call = c.at_moment-call.result; reply = c.answer-reply.result }); at = ledger.at } in
-      c.enter.ensures ∙ ap after c.advance.ensures ∙ ap (λ (n : ℕ). after (record { book = c.args.ledger.now.book; at = n })) c.at-2.ensures
+      c.enter.ensures ∙ ap after c.go_on.ensures
 
   new_book : c.enter.new.self.book ≡ entered c.args.ledger.now.book c.args.call c.answer-reply.result
   new_book =
@@ -48,7 +48,7 @@ module _ (c : goal.After-enter) where
   goes : EachBefore c.args.ledger.now.book (λ before. GoesOn before c.args.ledger.now.book c.args.call c.answer-reply.result c.enter.new.self.book)
   goes before behind =
       let part = c.args.ledger.now.book in
-      let answers = subst (λ (ledger : LedgerRecord). EachBook ledger.book (λ whole. c.answer-reply.result ≡ reply_to whole c.at_moment-call.result)) c.advance.ensures c.answer-reply.ensures in
+      let answers = subst (λ (ledger : LedgerRecord). EachBook ledger.book (λ whole. c.answer-reply.result ≡ reply_to whole c.at_moment-call.result)) c.go_on.ensures c.answer-reply.ensures in
       let right : c.answer-reply.result ≡ reply_to (book_behind before part) (parts.entered (begin_of part) part.entries c.args.call) =
       answers before behind ∙ ap (reply_to (book_behind before part)) is in
       subst (λ (b : PartRecord). GoesOn before part c.args.call c.answer-reply.result b) (sym new_book)

@@ -3,8 +3,8 @@ use Rattle.share_policy.proofs.Totals.{shares_small, shares_at_zero, fair_at}
 use Rattle.share_policy.proofs.Levels.{level_of-step}
 use Rattle.share_policy.proofs.shares.level.Goals as goal
 
-pub total_at-requires : goal.total_at-requires
-total_at-requires c = shares_small _ c.args.cap c.args.claims.now c.requires
+pub total_at-total-requires : goal.total_at-total-requires
+total_at-total-requires c = shares_small _ c.args.cap c.args.claims.now c.requires
 
 pub loop-low-init : goal.loop-low-init
 loop-low-init c =

@@ -1,10 +1,12 @@
 use Rattle.std.proofs.Common.{◌≡◌, List, [], None, sym, subst, ◌∙◌, ap, map, false}
 use Rattle.plant_book.specs.Site.{SiteRecord}
 use Rattle.plant_book.specs.Part.{PartRecord}
-use Rattle.plant_ledger.specs.declared.account.Account.{Account}
+use Rattle.plant_ledger.specs.Account.{Account}
 use Rattle.plant_ledger.specs.Account.{first_account}
-use Rattle.plant_ledger.specs.Ledger.{IsLedgerOf}
-use Rattle.plant_ledger.proofs.Accounts.{first_of}
+use Rattle.plant_ledger.specs.Ledger.{IsLedgerOf, AreSums}
+use Rattle.plant_book.specs.Carry.{mark_of, EachBook}
+use Rattle.plant_ledger.proofs.Accounts.{first_of, first_mark}
+use Rattle.plant_ledger.proofs.Running.{no_level, no_fall_level}
 use Rattle.plant_ledger.proofs.ledger.Ledger.new.Goals as goal
 
 pub invariant_of-result : goal.invariant_of-result
@@ -13,5 +15,12 @@ invariant_of-result c =
     let units : c.deref.result.now ≡ c.args.site.units = c.deref.ensures.value ∙ ap (λ (site : SiteRecord). site.units) c.site.view_is in
     let accounts : c.in_ok-accounts.accounts.items ≡ map first_account c.args.site.units = c.in_ok-accounts.ensures ∙ ap (map first_account) units in
     let cap : c.site.inside.cap ≡ c.args.site.cap = ap (λ (site : SiteRecord). site.cap) c.site.view_is in
-    rw cap (subst (λ (book : PartRecord). IsLedgerOf book c.args.start c.in_ok-accounts.accounts.items c.args.site.cap false) (sym c.in_ok-book.ensures)
-    (subst (λ (all : List Account). IsLedgerOf (record { site = c.args.site; start = c.args.start; carry = None; entries = [] }) c.args.start all c.args.site.cap false) (sym accounts) first))
+    let its : c.deref-2.result.now ≡ c.in_ok-accounts.accounts.items = c.deref-2.ensures.value in
+    record {
+      numbers = rw cap (subst (λ (book : PartRecord). IsLedgerOf book c.args.start c.in_ok-accounts.accounts.items c.args.site.cap false) (sym c.in_ok-book.ensures)
+          (subst (λ (all : List Account). IsLedgerOf (record { site = c.args.site; start = c.args.start; carry = None; entries = [] }) c.args.start all c.args.site.cap false) (sym accounts) first));
+      sums = subst (λ (all : List Account). AreSums all c.gather-sums.result) its c.gather-sums.ensures.sums;
+      level = no_level _ _ _ c.gather-sums.ensures.level;
+      fall = no_fall_level _ _ _ c.gather-sums.ensures.fall;
+      set = subst (λ (book : PartRecord). EachBook book (λ whole. c.gather-sums.result.set ≡ mark_of whole)) (sym c.in_ok-book.ensures) (first_mark c.args.site c.args.start c.gather-sums.result.set c.gather-sums.ensures.set);
+    }

@@ -1,16 +1,16 @@
-use Rattle.std.proofs.Common.{◌≡◌, Bool, ℕ, ◌-◌, Some, true, filter, length, map, sym, ap, ◌∙◌, arith}
-use Rattle.limiter_num.specs.Rating.{mw}
+use Rattle.std.proofs.Common.{◌≡◌, Bool, ℕ, ◌-◌, Some, true, filter, length, sym, ap, ◌∙◌, arith}
 use Rattle.limiter_num.specs.declared.rules.Rules.{Rules}
-use Rattle.plant_book.specs.declared.call.Reply.{Reply}
 use Rattle.plant_book.specs.declared.call.Reply.TheVariants as replies
 use Rattle.plant_book.specs.declared.call.Write as writes
 use Rattle.plant_book.specs.Writes.{frees}
 use Rattle.plant_book.specs.Reserved.{covering}
 use Rattle.plant_book.specs.Site.{floor_raw_at}
 use Rattle.plant_book.specs.Answer as rule
-use Rattle.plant_book.proofs.Inverters.{covering-is}
 use Rattle.uncertain_writes.specs.Live.{without}
-use Rattle.uncertain_writes.proofs.Lists.{length-without, fold_max-from}
+use Rattle.uncertain_writes.proofs.Lists.{length-without}
+use Rattle.plant_book.specs.declared.site.Unit.{Unit as Inverter}
+use Rattle.plant_ledger.specs.Account.{most_of}
+use Rattle.plant_ledger.proofs.Running.{most_of-is}
 use Rattle.plant_ledger.proofs.ledger.Ledger.reply_to_sight.Goals as goal
 
 freed_alike : (a b c d : ℕ) → a ≡ b → c ≡ d → replies.Freed a c ≡ replies.Freed b d
@@ -18,24 +18,25 @@ freed_alike a b c d one other = cc
 
 pub overflow_sub-result : goal.overflow_sub-result
 overflow_sub-result c =
-    let its = c.account.result.now.live in
+    let its = c.live-live.result.now in
     omega (arith, c.len.ensures, c.len-2.ensures, ap (length {A = writes.Write}) c.left_by-left.ensures, length-without (frees c.rules.result (Some c.args.read.now) c.args.raw) its)
 
 pub returns : goal.returns
 returns c before is =
     let a = c.args in
     let site = a.self.now.book.site in
-    let its = c.account.result.now.live in
-    let unit = c.unit-2.result.now in
+    let its = c.live-live.result.now in
+    let unit = c.account-account.result.now.unit in
     let free : Rules → writes.Write → Bool = λ rules write. frees rules (Some a.read.now) a.raw write in
     let left : c.left_by-left.result ≡ without (free site.rules) its = c.left_by-left.ensures ∙ ap (λ (rules : Rules). without (free rules) its) c.rules.ensures in
     let count : c.len.result - c.len-2.result ≡ length (filter (free site.rules) its) =
     omega (arith, c.len.ensures, c.len-2.ensures, ap (length {A = writes.Write}) left, length-without (free site.rules) its) in
     let watts : c.covering.result ≡ covering site a.inverter (without (free site.rules) its) =
     c.covering.ensures.watts
-    ∙ sym (covering-is site a.inverter unit c.unit-2.ensures.unit c.left_by-left.result ∙ fold_max-from (mw unit.rating unit.floor) (map (λ (write : writes.Write). mw unit.rating write.raw) c.left_by-left.result))
+    ∙ ap (λ (u : Inverter). most_of u c.left_by-left.result) c.unit-2.ensures
+    ∙ most_of-is site a.inverter unit c.left_by-left.result c.account-account.ensures.unit
     ∙ ap (covering site a.inverter) left in
     let known : rule.is_raw_of (floor_raw_at site a.inverter) a.raw its ≡ true =
     ap (λ (floor : ℕ). rule.is_raw_of floor a.raw its) c.unit.ensures.numbers.floor_raw ∙ sym c.is_known.ensures ∙ c.if-not-is_known.false in
     let alike : replies.Freed (c.len.result - c.len-2.result) c.covering.result ≡ rule.reply_to_sight site a.inverter (Some a.read.now) a.raw its = rw known (freed_alike _ _ _ _ count watts) in
-    alike ∙ ap (rule.reply_to_sight site a.inverter (Some a.read.now) a.raw) (c.account.ensures.account before is).live
+    alike ∙ ap (rule.reply_to_sight site a.inverter (Some a.read.now) a.raw) (c.live-live.ensures ∙ (c.account-account.ensures.account before is).live)
