@@ -1,0 +1,6 @@
+pub mod Lives
+pub mod Sums
+pub mod Kept
+pub mod Passes
+pub mod Fields
+pub mod Ends

@@ -1,0 +1,80 @@
+use Rattle.std.proofs.Common.{◌≡◌, ◌<◌, ℕ, List, [], ◌∷◌, ◌++◌, Some, None, sym, ap, subst, ◌∙◌, arith, refl, length}
+use Rattle.std.specs.Prelude.{IfSome}
+use Rattle.plant_book.specs.Site.{SiteRecord, inverters}
+use Rattle.plant_book.specs.Calls.{named}
+use Rattle.plant_book.specs.Part.{PartRecord}
+use Rattle.plant_desk.specs.declared.deed.Deed.TheVariants.{Entered}
+use Rattle.plant_desk.specs.Rule.{told}
+use Rattle.plant_desk.specs.Passes.{DeskRecord}
+use Rattle.plant_desk.proofs.Passes.{has_one_more}
+use Rattle.plant_desk.proofs.Fields.{stays, hand_of, is_pass, twice, site_is, enters, finds_full}
+use Rattle.plant_desk.proofs.desk.PlantDesk.apply.Goals as goal
+
+pub apply-requires-clause-of_site : goal.apply-requires-clause-of_site
+apply-requires-clause-of_site g c =
+    let out = c.take_turn-plant.ensures.taken (hand_of c.pass.inside) c.pass.invariant in
+    let site = site_is c.pass.inside _ _ _ c.pass.inside.place c.pass.view_is out refl ∙ ap (λ (d : DeskRecord). d.book.site) c.requires.of_desk in
+    subst (λ (s : SiteRecord). IfSome (named c.args.call) (λ inverter. inverter < inverters s)) (sym site) c.requires.of_site
+
+pub give_entered-requires-clause-holds : goal.give_entered-requires-clause-holds
+give_entered-requires-clause-holds g c =
+    let out = c.take_turn-plant.ensures.taken (hand_of c.pass.inside) c.pass.invariant in
+    let one = told (hand_of c.pass.inside) out.between in
+    let is = has_one_more one _ _ c.args.call c.in-Ok.outcome.reply out.on out.answered c.in-Ok.ensures.entered c.in-Ok.ensures.lives (c.in-Ok.ensures.room.0 refl) in
+    (one, out.holds, is.more)
+
+pub invariant_of-pass : goal.invariant_of-pass
+invariant_of-pass g c =
+    let out = c.take_turn-plant.ensures.taken (hand_of c.pass.inside) c.pass.invariant in
+    let one = told (hand_of c.pass.inside) out.between in
+    let is = has_one_more one _ _ c.args.call c.in-Ok.outcome.reply out.on out.answered c.in-Ok.ensures.entered c.in-Ok.ensures.lives (c.in-Ok.ensures.room.0 refl) in
+    let deed = Entered one.number is.more.entry in
+    is_pass c.pass.inside c.give_entered.new.place (out.between ++ deed ∷ []) (twice (hand_of c.pass.inside) out.between (deed ∷ []) _ (c.give_entered.ensures.given one is.more out.holds))
+
+pub calls_now-calls-requires-clause-holds : goal.calls_now-calls-requires-clause-holds
+calls_now-calls-requires-clause-holds g c =
+    let out = c.take_turn-plant.ensures.taken (hand_of c.pass.inside) c.pass.invariant in
+    (told (hand_of c.pass.inside) out.between, None, out.holds)
+
+pub give_back-requires-clause-holds : goal.give_back-requires-clause-holds
+give_back-requires-clause-holds g c =
+    let out = c.take_turn-plant.ensures.taken (hand_of c.pass.inside) c.pass.invariant in
+    (told (hand_of c.pass.inside) out.between, c.calls_now-calls.ensures.same.1 ∙ out.holds, c.in-Err.ensures.full.2 ∙ out.on)
+
+pub overflow_cast-result : goal.overflow_cast-result
+overflow_cast-result g c =
+    let out = c.take_turn-plant.ensures.taken (hand_of c.pass.inside) c.pass.invariant in
+    let one = told (hand_of c.pass.inside) out.between in
+    let high = out.answered.book.openable.checked.room_high in
+    let calls = c.calls_now-calls.ensures.calls one None out.holds in
+    let many = ap (λ (b : PartRecord). length b.entries) out.on in
+    let room = ap (λ (b : PartRecord). b.site.room) out.on in
+    omega (arith, calls, many, room, high, c.in-Err.ensures.full.0, c.in-Err.ensures.full.1)
+
+pub invariant_of-pass-in-Err : goal.invariant_of-pass-in-Err
+invariant_of-pass-in-Err g c =
+    let out = c.take_turn-plant.ensures.taken (hand_of c.pass.inside) c.pass.invariant in
+    let one = told (hand_of c.pass.inside) out.between in
+    is_pass c.pass.inside c.give_back.new.place out.between (c.give_back.ensures.given one (c.calls_now-calls.ensures.same.1 ∙ out.holds))
+
+pub returns-in-Ok-clause-entered : goal.returns-in-Ok-clause-entered
+returns-in-Ok-clause-entered g c =
+    let out = c.take_turn-plant.ensures.taken (hand_of c.pass.inside) c.pass.invariant in
+    let one = told (hand_of c.pass.inside) out.between in
+    let is = has_one_more one _ _ c.args.call c.in-Ok.outcome.reply out.on out.answered c.in-Ok.ensures.entered c.in-Ok.ensures.lives (c.in-Ok.ensures.room.0 refl) in
+    enters c.pass.inside _ _ _ c.give_entered.new.place c.pass.view_is out (c.give_entered.ensures.same ∙ c.take_turn-plant.ensures.same) _ c.args.call c.in-Ok.outcome.reply is
+    (c.give_entered.ensures.given one is.more out.holds)
+
+pub returns-in-Err-clause-full : goal.returns-in-Err-clause-full
+returns-in-Err-clause-full g c =
+    let out = c.take_turn-plant.ensures.taken (hand_of c.pass.inside) c.pass.invariant in
+    let one = told (hand_of c.pass.inside) out.between in
+    let calls = c.calls_now-calls.ensures.calls one None out.holds ∙ ap (λ (b : PartRecord). length b.entries) (sym out.on) in
+    finds_full c.pass.inside _ _ _ c.give_back.new.place c.pass.view_is out (c.give_back.ensures.same ∙ c.calls_now-calls.ensures.same.0 ∙ c.take_turn-plant.ensures.same)
+    c.calls_now-calls.result calls (calls ∙ sym c.in-Err.ensures.full.0 ∙ c.in-Err.ensures.full.1) (c.give_back.ensures.given one (c.calls_now-calls.ensures.same.1 ∙ out.holds))
+
+pub returns-in-Ok-clause-same : goal.returns-in-Ok-clause-same
+returns-in-Ok-clause-same g c = stays c.pass.inside _ c.give_entered.new.place c.pass.view_is (c.give_entered.ensures.same ∙ c.take_turn-plant.ensures.same)
+
+pub returns-in-Err-clause-same : goal.returns-in-Err-clause-same
+returns-in-Err-clause-same g c = stays c.pass.inside _ c.give_back.new.place c.pass.view_is (c.give_back.ensures.same ∙ c.calls_now-calls.ensures.same.0 ∙ c.take_turn-plant.ensures.same)

@@ -1,0 +1,5 @@
+pub mod Deeds
+pub mod Hands
+pub mod Rule
+pub mod Passes
+pub mod Kept
