@@ -5,7 +5,7 @@ use std::alloc::Global;
 use world_traits::Source;
 
 /// How many bytes are read at a time, at most.
-const CHUNK: usize = 4096;
+const CHUNK: usize = 65_536;
 
 /// Why an input was not read.
 #[derive(Clone, Copy, Debug, PartialEq, Eq)]
