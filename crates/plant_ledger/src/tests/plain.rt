@@ -1,4 +1,4 @@
-//! The plant gives the replies of the plain slow program.
+//! The plant gives the replies of the plain slow program, whatever books its life is kept in.
 use super::*;
 use plant_book::answer;
 
@@ -59,8 +59,8 @@ fn plain(rt: &impl Abort, plant: &Plant, call: Call) -> Reply {
 
 #[test]
 fn replies_are_those_of_the_plain_program(rt: HostRuntime) -> Result<(), Fail> {
-    let site = site(&rt, rt.alloc(), 10_000_000, Policy::Fair, 4_000)?;
-    let mut plant = Plant::open(rt.alloc(), site, 0).ok().ok_or("open")?;
+    let mut plant = opened(rt.alloc(), 10_000_000, Policy::Fair, 4_000).ok_or("open")?;
+    let mut rolled = opened(rt.alloc(), 10_000_000, Policy::Fair, 4_000).ok_or("open")?;
     let mut state = 1_u32;
     let mut at = 60_000_u64;
     let mut last = Last {
@@ -79,6 +79,11 @@ fn replies_are_those_of_the_plain_program(rt: HostRuntime) -> Result<(), Fail> {
         let call = call_by(digits, at, &last);
         let reply = plain(&rt, &plant, call);
         assert_eq!(rt; enter(&rt, &mut plant, call), Ok(reply), "{call:?}");
+        assert_eq!(rt; enter(&rt, &mut rolled, call), Ok(reply), "{call:?}");
+        assert_eq!(rt; rolled.ceiling(), plant.ceiling());
+        if digits / 64 % 8 == 0 {
+            assert!(rt; rolled.roll(rt.alloc()).is_ok());
+        }
         match reply {
             Reply::Granted(write) => last.write = write,
             Reply::ReadAs(read) => last.read = read,
