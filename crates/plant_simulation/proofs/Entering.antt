@@ -3,7 +3,6 @@ use Rattle.std.proofs.Common.{◌≡◌, ℕ, List, [], ◌∷◌, ◌++◌, Opt
 use Rattle.plant_book.specs.declared.call.Call.{Call}
 use Rattle.plant_book.specs.declared.call.Reply.{Reply}
 use Rattle.plant_book.specs.declared.book.Entry.{Entry}
-use Rattle.plant_book.specs.Book.{BookRecord}
 use Rattle.plant_book.specs.Calls as calls
 use Rattle.plant_book.specs.Answered.{with_entries, IsBook}
 use Rattle.plant_book.specs.Carry.{carry_of, IsBehind, EachBefore}

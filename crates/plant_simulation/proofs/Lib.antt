@@ -3,3 +3,4 @@ pub mod Entering
 pub mod Ready
 pub mod Ranges
 pub mod Running
+pub mod Peak

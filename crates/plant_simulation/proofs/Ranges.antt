@@ -1,9 +1,9 @@
 -- The numbers of requests and of what is held stay in their ranges.
-use Rattle.std.proofs.Common.{◌≡◌, ℕ, zero, suc, ◌+◌, ◌<◌, ◌≤◌, ◌^◌, Bool, true, false, cond, not, leb, ltb, eqb, List, [], ◌∷◌, ◌++◌, length, map, replicate, take, drop, Option, Some, None, refl, sym, subst, ap, ◌∙◌, arith, lit≤, inl, inr}
+use Rattle.std.proofs.Common.{◌≡◌, ℕ, zero, suc, ◌+◌, ◌≤◌, Bool, true, false, cond, not, leb, ltb, eqb, List, [], ◌∷◌, ◌++◌, length, map, replicate, take, drop, Option, Some, None, refl, sym, subst, ap, arith, lit≤, inl, inr}
 use Rattle.std.specs.Prelude.{filter, slice_get}
 use Rattle.std.specs.List.{AllByRecursion}
 use Rattle.std.specs.Option.{option_map_or}
-use Rattle.std.proofs.lemmas.Bool.{cases_Bool, eqb-true, leb-false, ltb-false}
+use Rattle.std.proofs.lemmas.Bool.{cases_Bool}
 use Rattle.limiter_num.specs.Greatest.{greatest_up_to}
 use Rattle.limiter_num.specs.Milliwatts.{full_of, is_within_full}
 use Rattle.limiter_num.specs.Rating.{mw, full, raw_at_most}
@@ -15,16 +15,16 @@ use Rattle.plant_book.specs.declared.call.Reply.TheVariants as replies
 use Rattle.plant_book.specs.declared.call.Write as writes
 use Rattle.plant_book.specs.declared.call.Read as reads
 use Rattle.plant_book.specs.declared.call.TheConstants.{REQUESTS_MAX, LIVE_MAX}
-use Rattle.plant_book.specs.Site.{mw_at, full_at, raw_at, floor_raw_at, floors}
+use Rattle.plant_book.specs.Site.{mw_at, full_at, raw_at, floors}
 use Rattle.plant_book.specs.Book.{BookRecord}
 use Rattle.plant_book.specs.Requests.{link_number, requests, pending_read}
 use Rattle.plant_book.specs.Writes.{live, frees}
 use Rattle.plant_book.specs.Policy.{target_at}
-use Rattle.plant_book.specs.Reserved.{unreserved_at, now_of, covering}
+use Rattle.plant_book.specs.Reserved.{unreserved_at, now_of}
 use Rattle.plant_book.specs.Calls.{moment}
-use Rattle.plant_book.specs.Answered.{IsBook, IsInRange}
-use Rattle.plant_book.specs.Answer.{reply_to, reply_to_ask, reply_by_policy, reply_by_watts, reply_to_read, reply_to_saw, reply_to_back, reply_to_cap, raise_at, write_at, silent_until, is_pending, is_raw_of, goal_raw, ceiling_with}
-use Rattle.plant_book.proofs.Granting.{rest_of, granted_is_covered}
+use Rattle.plant_book.specs.Answered.{IsBook}
+use Rattle.plant_book.specs.Answer.{reply_to, reply_to_ask, reply_by_policy, reply_by_watts, reply_to_read, reply_to_saw, reply_to_back, reply_to_cap, raise_at, write_at, silent_until, goal_raw, ceiling_with}
+use Rattle.plant_book.proofs.Granting.{rest_of}
 use Rattle.plant_book.proofs.Numbers.{read_is_at}
 use Rattle.plant_book.proofs.Few.{live_few, length-filter_not}
 use Rattle.plant_simulation.specs.declared.inverter.Request.{Request}
@@ -32,7 +32,7 @@ use Rattle.plant_simulation.specs.declared.inverter.Request.TheVariants as sent
 use Rattle.plant_simulation.specs.declared.inverter.OldWrite.{OldWrite}
 use Rattle.plant_simulation.specs.World.{InverterRecord, fresh}
 use Rattle.plant_simulation.specs.Call.{freed_in}
-use Rattle.plant_simulation.specs.Inverter.{is_due, reverted, is_late, is_late_request, without_late, inverter_at, requested, queued, holding, old_writes, emptied, without_first, is_of_link, without_old, changed_at}
+use Rattle.plant_simulation.specs.Inverter.{is_due, reverted, is_late, is_late_request, inverter_at, requested, queued, holding, old_writes, emptied, without_first, is_of_link, without_old, changed_at}
 
 -- a raw percentage that is found is at most 65535
 greatest_le : (n : ℕ) (test : ℕ → Bool) → greatest_up_to n test ≤ n

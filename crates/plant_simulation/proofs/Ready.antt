@@ -1,22 +1,21 @@
 -- What stays true of a plant.
-use Rattle.std.proofs.Common.{◌≡◌, ℕ, zero, suc, ◌+◌, ◌*◌, ◌<◌, ◌≤◌, max, ◌^◌, List, [], ◌∷◌, ◌++◌, map, length, refl, sym, subst, ap, ◌∙◌, add-one, arith}
+use Rattle.std.proofs.Common.{◌≡◌, ℕ, zero, suc, ◌+◌, ◌<◌, ◌≤◌, max, ◌^◌, List, length, refl, sym, subst, ap, ◌∙◌, add-one, arith}
 use Rattle.std.specs.Prelude.{IfSome}
 use Rattle.std.proofs.lemmas.List.{length-map, length_push}
 use Rattle.std.proofs.Math.ListN.{length-replicate}
 use Rattle.plant_book.specs.declared.call.Call.{Call}
 use Rattle.plant_book.specs.declared.call.Call.TheVariants as calls
-use Rattle.plant_book.specs.declared.book.Entry.{Entry}
 use Rattle.plant_book.specs.Sums.{sum_below}
 use Rattle.plant_book.specs.Site.{SiteRecord}
 use Rattle.plant_book.specs.Book.{BookRecord}
-use Rattle.plant_book.specs.Calls.{moment, named, entered, latest}
+use Rattle.plant_book.specs.Calls.{moment, named, latest}
 use Rattle.plant_book.specs.Reserved.{now_of}
 use Rattle.plant_book.specs.Answered.{IsInRange, IsBook}
 use Rattle.plant_book.proofs.Growth.{IsBook-push, IsBook-empty, IsNext-entered, moment-at_moment}
 use Rattle.plant_book.proofs.Steps.{latest-push}
 use Rattle.plant_simulation.specs.World.{InverterRecord, World}
 use Rattle.plant_simulation.specs.Inverter.{emptied, inverter_at}
-use Rattle.plant_simulation.specs.Call.{entry_in, grants_in, freed_in, with_entry, reply_in, called}
+use Rattle.plant_simulation.specs.Call.{entry_in, with_entry, called}
 use Rattle.plant_simulation.specs.Step.{drawn, changed, linked, next_life, passed}
 use Rattle.plant_simulation.specs.Ready.{IsReady}
 use Rattle.plant_simulation.specs.Site.{site_of, unit}

@@ -1,42 +1,40 @@
 -- What is true of a plant behind any count of steps.
-use Rattle.std.proofs.Common.{◌≡◌, ℕ, zero, suc, ◌+◌, ◌*◌, ◌<◌, ◌≤◌, ◌%◌, max, ◌^◌, Bool, true, false, cond, eqb, leb, ltb, List, [], ◌∷◌, ◌++◌, length, map, replicate, Option, Some, None, refl, sym, subst, ap, ◌∙◌, add-one, arith, lit<, lit≤}
+use Rattle.std.proofs.Common.{◌≡◌, ℕ, zero, suc, ◌+◌, ◌*◌, ◌<◌, ◌≤◌, max, ◌^◌, Bool, true, false, cond, ltb, List, [], ◌∷◌, length, replicate, Option, Some, None, refl, sym, subst, ap, ◌∙◌, add-one, arith, lit≤}
 use Rattle.std.specs.Prelude.{◌==◌, IfSome, slice_get}
 use Rattle.std.specs.Option.{option_map_or}
 use Rattle.std.specs.List.{AllByRecursion}
-use Rattle.std.proofs.lemmas.Bool.{cases_Bool, le-ltb, ne_eqb}
+use Rattle.std.proofs.lemmas.Bool.{le-ltb, ne_eqb}
 use Rattle.std.proofs.lemmas.List.{length-map, length_push}
 use Rattle.std.proofs.Math.ListN.{length-replicate}
 use Rattle.limiter_num.specs.Rating.{mw}
 use Rattle.limiter_num.specs.Milliwatts.{mw_of, scaled_up}
-use Rattle.plant_book.specs.declared.site.Unit as units
 use Rattle.plant_book.specs.declared.call.Call.{Call}
 use Rattle.plant_book.specs.declared.call.Call.TheVariants as calls
 use Rattle.plant_book.specs.declared.call.Reply.{Reply}
 use Rattle.plant_book.specs.declared.call.Reply.TheVariants as replies
 use Rattle.plant_book.specs.declared.call.Write as writes
 use Rattle.plant_book.specs.Sums.{sum_below}
-use Rattle.plant_book.specs.Site.{SiteRecord, inverters, floor_at, floors}
-use Rattle.plant_book.specs.Book.{BookRecord}
-use Rattle.plant_book.specs.Calls.{moment, named, entered, latest}
+use Rattle.plant_book.specs.Site.{inverters, floor_at, floors}
+use Rattle.plant_book.specs.Calls.{moment, named, latest}
 use Rattle.plant_book.specs.Reserved.{now_of}
 use Rattle.plant_book.specs.Answer.{goal_raw}
-use Rattle.plant_book.specs.Answered.{IsInRange, IsBook, IsOpenable}
+use Rattle.plant_book.specs.Answered.{IsInRange, IsOpenable}
 use Rattle.plant_book.proofs.Growth.{IsBook-empty, moment-at_moment}
 use Rattle.plant_ledger.specs.Opening.{open_fault}
 use Rattle.plant_simulation.specs.declared.inverter.Request.{Request}
 use Rattle.plant_simulation.specs.declared.inverter.Request.TheVariants as sent
 use Rattle.plant_simulation.specs.declared.inverter.OldWrite.{OldWrite}
-use Rattle.plant_simulation.specs.Words.{word, behind, draw}
+use Rattle.plant_simulation.specs.Words.{draw}
 use Rattle.plant_simulation.specs.Site.{site_of, unit}
 use Rattle.plant_simulation.specs.World.{InverterRecord, World, fresh, held_by, held_in}
-use Rattle.plant_simulation.specs.Inverter.{inverter_at, requested, queued, holding, emptied, without_first, without_old, changed_at}
-use Rattle.plant_simulation.specs.Call.{entry_in, grants_in, freed_in, with_entry, reply_in, called}
+use Rattle.plant_simulation.specs.Inverter.{inverter_at, requested, queued, holding, emptied, without_first, without_old}
+use Rattle.plant_simulation.specs.Call.{entry_in, grants_in, with_entry, reply_in, called}
 use Rattle.plant_simulation.specs.Step.{drawn, changed, passed, asked_for, asked, read_back, acted, delivered, line_of, reached, by_line, old_of, by_place, came_late, wished, relinked, linked, next_life, restarted, ticked, happened, stepped}
 use Rattle.plant_simulation.specs.Summary.{unlinked, beginning, plant_after, peak_after}
 use Rattle.plant_simulation.specs.Ready.{IsReady}
 use Rattle.plant_simulation.proofs.Lists.{length-changed_at}
-use Rattle.plant_simulation.proofs.Ready.{IsSound, sound_same, MayCall, sound_called, IsLinked, is_linked, sound_linked, sound_next, sound_passed, ready}
-use Rattle.plant_simulation.proofs.Ranges.{goal_small, FreesFew, freed_by_call, all_at, InRangeOf, IsRanged, ranged_fresh, ranged_at, ranged_queued, ranged_holding, ranged_emptied, ranged_without_first, ranged_without_old, all_changed, all_each, all_replicate, asked_ranged, read_ranged}
+use Rattle.plant_simulation.proofs.Ready.{IsSound, sound_same, MayCall, sound_called, is_linked, sound_linked, sound_next, sound_passed, ready}
+use Rattle.plant_simulation.proofs.Ranges.{goal_small, freed_by_call, all_at, InRangeOf, IsRanged, ranged_fresh, ranged_at, ranged_queued, ranged_holding, ranged_emptied, ranged_without_first, ranged_without_old, all_changed, all_each, all_replicate, asked_ranged, read_ranged}
 
 -- the site that is simulated can be opened
 watts_of : (n inverter : ℕ) → option_map_or (λ u. mw u.rating u.floor) (slice_get (replicate n unit) inverter) 0 ≤ 600000

@@ -6,4 +6,5 @@ pub mod Call
 pub mod Step
 pub mod Ready
 pub mod Summary
+pub mod Peak
 pub mod Text

@@ -1,5 +1,5 @@
 -- What is true of every plant that is simulated.
-use Rattle.std.specs.Prelude.{◌≡◌, ℕ, ◌<◌, ◌≤◌, ◌^◌, length}
+use Rattle.std.specs.Prelude.{◌≡◌, ◌<◌, ◌≤◌, ◌^◌, length}
 use Rattle.plant_book.specs.Reserved.{now_of}
 use Rattle.plant_book.specs.Answered.{IsBook}
 use Rattle.plant_simulation.specs.Site.{site_of}

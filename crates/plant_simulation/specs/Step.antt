@@ -5,7 +5,6 @@ use Rattle.std.specs.Option.{option_map_or}
 use Rattle.plant_book.specs.declared.call.Call.TheVariants as calls
 use Rattle.plant_book.specs.declared.call.Write as writes
 use Rattle.plant_book.specs.Answer.{goal_raw}
-use Rattle.plant_book.specs.Book.{BookRecord}
 use Rattle.plant_simulation.specs.declared.inverter.Request.{Request}
 use Rattle.plant_simulation.specs.declared.inverter.Request.TheVariants as requests
 use Rattle.plant_simulation.specs.declared.inverter.OldWrite.{OldWrite}

@@ -2,6 +2,7 @@
 #![tactic(auto)]
 
 mod inverter;
+mod laws;
 mod simulation;
 mod site;
 mod summary;
@@ -9,6 +10,7 @@ mod text;
 mod words;
 
 pub use inverter::{OldWrite, Request};
+pub use laws::peaks_are_greatest;
 pub use summary::{Summary, simulate};
 pub use text::summary_text;
 

@@ -1,4 +1,4 @@
-use Rattle.std.proofs.Common.{List, set, ap, sym, ◌∙◌, length, arith}
+use Rattle.std.proofs.Common.{set, ap, sym, ◌∙◌}
 use Rattle.std.proofs.lemmas.List.Edits.{map_over_more}
 use Rattle.plant_simulation.specs.World.{InverterRecord}
 use Rattle.plant_simulation.specs.Inverter as rule

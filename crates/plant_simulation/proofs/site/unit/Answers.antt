@@ -1,4 +1,4 @@
-use Rattle.std.proofs.Common.{◌≤◌, subst, ap, sym}
+use Rattle.std.proofs.Common.{◌≤◌, subst, sym}
 use Rattle.limiter_num.specs.Milliwatts.{full_of}
 use Rattle.limiter_num.specs.declared.rating.Rating.{Rating}
 use Rattle.plant_simulation.specs.Site as rule

@@ -1,7 +1,6 @@
-use Rattle.std.proofs.Common.{◌≡◌, ◌+◌, sym, subst, ap, ◌∙◌, arith}
+use Rattle.std.proofs.Common.{◌+◌, sym, subst, ap, ◌∙◌, arith}
 use Rattle.plant_simulation.specs.World.{World, held_in}
 use Rattle.plant_simulation.specs.Step.{stepped}
-use Rattle.plant_simulation.specs.Summary.{plant_after, peak_after}
 use Rattle.plant_simulation.specs.Ready.{IsReady}
 use Rattle.plant_simulation.proofs.Running.{step_ready, plant_first, plant_more, peak_first, peak_more}
 use Rattle.plant_simulation.proofs.summary.simulate.Goals as goal

@@ -1,4 +1,4 @@
-use Rattle.std.proofs.Common.{◌≡◌, ℕ, List, length, refl, sym, subst, ap, ◌∙◌, add-one, arith}
+use Rattle.std.proofs.Common.{List, length, refl, sym, subst, ap, ◌∙◌, arith}
 use Rattle.plant_book.specs.declared.call.Call.TheVariants as calls
 use Rattle.plant_simulation.specs.World.{InverterRecord, World}
 use Rattle.plant_simulation.specs.Call.{called}
