@@ -7,3 +7,6 @@
 mod inbox;
 
 pub use inbox::{Inbox, NoFrame};
+
+#[cfg(test)]
+mod tests;

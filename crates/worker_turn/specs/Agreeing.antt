@@ -86,8 +86,8 @@ dialed job run = flat_map (λ one. dialed_in job one.input) run
 abbrev pub IsSent : List ℕ → Option Links → Type 0
 IsSent bytes told = (links : Links) (link : Link) → told ≡ Some links → links.current ≡ Some link → link.sent ≡ bytes
 
--- The bytes sent on the link that is up, before and after an output that was done with this input: a new link has none; a
--- request that went out whole is its frame, and of one whose send failed there is a part.
+-- The bytes sent on the link that is up, before and after an output that was done with this input: a new link has
+-- none; a request that went out whole is its frame, and of one whose send failed there is a part.
 abbrev pub Sends : Job → Output → Input → (before after : List ℕ) → Type 0
 Sends job output.Dial input.Dialed before after = after ≡ []
 Sends job (output.Send request clock) input.SentAll before after =

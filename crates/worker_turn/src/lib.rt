@@ -16,3 +16,6 @@ pub use laws::{
     calls_are_entered, failures_are_counted, frames_are_read_in_order, links_are_the_jobs,
 };
 pub use worker::{Turned, Worker};
+
+#[cfg(test)]
+mod tests;

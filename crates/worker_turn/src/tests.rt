@@ -1,0 +1,168 @@
+ghost use Rattle.std.specs.Prelude.{◌≡◌, ◌<◌, [], IfOk};
+ghost use Rattle.plant_book.specs.Site.{inverters};
+
+use super::*;
+use arrayvec::ArrayString;
+use inverter_worker::{Asked, Job, Sent};
+use ledger_desk::PlainDesk;
+use limiter_num::{Rating, Rules};
+use plant_book::{Policy, Port, Read, Site, Unit, Write};
+use plant_ledger::Plant;
+use std::alloc::{AllocError, Global};
+use std::test::Fail;
+use world_traits::{Move, PlayDialer, PlayLink, StepClock, Watch};
+
+fn sent<T: Send>(_value: &T) {}
+
+fn rules() -> Result<Rules, Fail> {
+    Ok(Rules::new(1_000, 4_000, 60, 20, 500).ok().ok_or("rules")?)
+}
+
+/// An inverter of 6 kW with a floor of 10 percent.
+fn unit() -> Result<Unit, Fail> {
+    let rating = Rating::new(6_000, 0, -1).ok().ok_or("a rating")?;
+    Ok(Unit::new(rating, 100).ok().ok_or("a floor")?)
+}
+
+/// The desk of a plant of that inverter, whose book begins at 1 ms.
+fn desk(alloc: Global) -> Result<PlainDesk, Fail>
+    ensures { IfOk result (λ desk. 0 < inverters desk.book.site) }
+{
+    let site = Site::new(
+        10_000_000,
+        rules()?,
+        Policy::Open,
+        1_000,
+        vec![in alloc; unit()?]?,
+    );
+    let plant = Plant::open(alloc, site, 1).ok().ok_or("a plant")?;
+    Ok(PlainDesk::new(alloc, plant))
+}
+
+/// Its worker, with so many turns.
+fn worker(alloc: Global, turns: u32, pause: u32) -> Result<Worker, Fail>
+    ensures { IfOk result (λ worker. worker.job.inverter ≡ 0) }
+{
+    let port = Port {
+        host: ArrayString::new(),
+        port: 502,
+        unit: 1,
+        base: 40296,
+    };
+    let job = Job {
+        inverter: 0,
+        unit: unit()?,
+        port,
+        rules: rules()?,
+        renew: 20_000,
+        pause,
+        wait: 2_000,
+    };
+    Ok(Worker::new(alloc, job, turns))
+}
+
+/// A dialer with one link that takes 1,000 bytes and plays these moves.
+fn dialer(alloc: Global, moves: Vec<Move>) -> Result<PlayDialer, AllocError> {
+    let link = PlayLink {
+        takes: 1_000,
+        moves,
+    };
+    Ok(PlayDialer::new(alloc, vec![in alloc; link]?, Vec::new(alloc)))
+}
+
+/// The reply to the read-back of this number, which shows this raw percentage in two bytes.
+fn shown(alloc: Global, number: u8, raw: [u8; 2]) -> Result<Move, AllocError> {
+    let bytes = [
+        0, number, 0, 0, 0, 19, 1, 3, 16, 0, 1, raw[0], raw[1], 0, 100, 0, 1, 0, 0, 0, 60, 0, 0, 0,
+        0,
+    ];
+    Ok(Move::Bytes(Vec::from_slice(alloc, &bytes)?))
+}
+
+/// The reply to the write of number 2, twice in one piece.
+fn wrote_twice(alloc: Global) -> Result<Move, AllocError> {
+    let bytes = [
+        0, 2, 0, 0, 0, 6, 1, 16, 0x9D, 0x76, 0, 6, 0, 2, 0, 0, 0, 6, 1, 16, 0x9D, 0x76, 0, 6,
+    ];
+    Ok(Move::Bytes(Vec::from_slice(alloc, &bytes)?))
+}
+
+/// One turn with the inverter of number 0.
+fn one_turn(
+    worker: &mut Worker,
+    desk: &mut PlainDesk,
+    dialer: &mut PlayDialer,
+    clock: &StepClock,
+) -> Turned
+    requires desk { 0 < inverters desk.old.book.site }
+    requires worker { worker.old.job.inverter ≡ 0 }
+    ensures desk { 0 < inverters desk.new.book.site }
+    ensures worker { worker.new.job.inverter ≡ 0 }
+{
+    worker.turn(desk, dialer, &mut Watch::new(clock))
+}
+
+/// A request as the log keeps it.
+fn read_at(number: u16, at: u64, clock: u64) -> Sent {
+    let read = Read {
+        inverter: 0,
+        link: 1,
+        number,
+        at,
+    };
+    Sent {
+        request: Asked::Read(read),
+        clock,
+    }
+}
+
+#[test]
+fn a_silent_plant_is_read(rt: HostRuntime) -> Result<(), Fail> {
+    let alloc = rt.alloc();
+    let mut worker = worker(alloc, 1, 1_000)?;
+    sent(&worker);
+    let mut desk = desk(alloc)?;
+    let mut dialer = dialer(alloc, Vec::new(alloc))?;
+    let clock = StepClock::new(1, 1);
+    assert_eq!(rt;
+        one_turn(&mut worker, &mut desk, &mut dialer, &clock),
+        Turned::Again
+    );
+    assert_eq!(rt; worker.log(), [read_at(1, 4, 5)].as_slice());
+    let bytes = [0, 1, 0, 0, 0, 6, 1, 3, 0x9D, 0x76, 0, 8];
+    let link = dialer.log().link(0).ok_or("a link")?;
+    assert_eq!(rt; link.sent(), bytes.as_slice());
+    Ok(())
+}
+
+#[test]
+fn a_second_reply_to_a_write_is_passed_over(rt: HostRuntime) -> Result<(), Fail> {
+    let alloc = rt.alloc();
+    let mut worker = worker(alloc, 2, 70_000)?;
+    let mut desk = desk(alloc)?;
+    let first = shown(alloc, 1, [0, 100])?;
+    let last = shown(alloc, 3, [3, 0xE8])?;
+    let mut dialer = dialer(alloc, vec![in alloc; first, wrote_twice(alloc)?, last]?)?;
+    let clock = StepClock::new(1, 1);
+    assert_eq!(rt;
+        one_turn(&mut worker, &mut desk, &mut dialer, &clock),
+        Turned::Again
+    );
+    assert_eq!(rt;
+        one_turn(&mut worker, &mut desk, &mut dialer, &clock),
+        Turned::Again
+    );
+    let write = Sent {
+        request: Asked::Write(Write {
+            inverter: 0,
+            link: 1,
+            number: 2,
+            at: 70_007,
+            raw: 1_000,
+        }),
+        clock: 70_008,
+    };
+    let log = [read_at(1, 4, 5), write, read_at(3, 70_009, 70_010)];
+    assert_eq!(rt; worker.log(), log.as_slice());
+    Ok(())
+}
