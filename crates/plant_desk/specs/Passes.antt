@@ -52,8 +52,8 @@ new_pass desk number = record { desk = desk; number = number; seen = [] }
 abbrev pub after : PassRecord → List Deed → PassRecord
 after pass later = record pass { seen = pass.seen ++ later }
 
--- What a pass finds once it has the turn: the life so far is an answered one, it begins with all that the pass
--- had seen, and has nothing else of the pass.
+-- What a pass finds once it has the turn: the life so far is an answered one, it begins with all that the
+-- pass had seen, and has nothing else of the pass.
 pub record Finds (old : PassRecord) (between : List Deed) : Type 0 where
   pub others : AreOthers old.number between
   pub answered : IsLife (life_of old.desk.book (old.seen ++ between))
@@ -72,8 +72,9 @@ pub record FindsFull (old : PassRecord) (calls : ℕ) (new : PassRecord) : Type 
   pub room : calls ≡ old.desk.book.site.room
   pub full : front old.desk.book new.seen ≡ base old.desk.book new.seen + calls
 
--- A call that was entered. The reply is the one that the joined book asks for which begins with all that the pass
--- had seen and has of the pass just its own entries. The pass gets one entry more, at the place behind that book.
+-- A call that was entered. The reply is the one that the joined book asks for which begins with all that
+-- the pass had seen and has of the pass just its own entries. The pass gets one entry more, at the place
+-- behind that book.
 pub record Enters (old : PassRecord) (call : Call) (reply : Reply) (new : PassRecord) : Type 0 where
   pub between : List Deed
   pub finds : Finds old between
@@ -93,8 +94,9 @@ pub record StandsIn (life : Life) (part : PartRecord) : Type 0 where
   pub behind : List PartRecord
   pub there : life.ended ≡ before ++ part ∷ behind
 
--- A roll: the book that ended is the last one of the life so far, and the next deed goes into the book behind it.
--- The pass gets one roll more, at the front, and the book that ended stands in whatever the life goes on to.
+-- A roll: the book that ended is the last one of the life so far, and the next deed goes into the book
+-- behind it. The pass gets one roll more, at the front, and the book that ended stands in whatever the life
+-- goes on to.
 pub record RollsOver (old : PassRecord) (ended : PartRecord) (new : PassRecord) : Type 0 where
   pub between : List Deed
   pub finds : Finds old between
@@ -109,14 +111,16 @@ pub record RollsOver (old : PassRecord) (ended : PartRecord) (new : PassRecord) 
 abbrev pub IsFull : PartRecord → List Deed → Type 0
 IsFull book deeds = CALLS_MAX < front book deeds + book.site.room
 
--- A roll that was refused: for a full life, with its calls as the front shows them, or else for want of memory.
+-- A roll that was refused: for a full life, with its calls as the front shows them, or else for want of
+-- memory.
 pub record RefusesRoll (old : PassRecord) (fault : RollFault) (new : PassRecord) : Type 0 where
   pub looks : Looks old new
   pub cause : ((fault ≡ LifeFull (front old.desk.book new.seen)) × IsFull old.desk.book new.seen)
       ⊎ ((fault ≡ NoMemory) × (¬ IsFull old.desk.book new.seen))
 
--- A life comes from these passes of a desk: it is the answered life that some deeds make of the book that came to
--- the desk. Each deed is of just one of the passes, and of each pass the deeds have just its own entries and rolls.
+-- A life comes from these passes of a desk: it is the answered life that some deeds make of the book that
+-- came to the desk. Each deed is of just one of the passes, and of each pass the deeds have just its own
+-- entries and rolls.
 pub record ComesFrom (desk : DeskRecord) (passes : List PassRecord) (life : Life) : Type 0 where
   pub deeds : List Deed
   pub made : life ≡ life_of desk.book deeds

@@ -62,9 +62,9 @@ pub record IsTaken (views : List View) : Type 0 where
   pub holds : view.holds ≡ true
 
 -- The rule. There are deeds, each of one of the passes, that make an answered life of the plant's first book.
--- `front` counts the calls of the joined book, and `base` those before the current one. While nobody has the turn
--- the plant is in the slot, on the last book of that life. `turn` names the one seat that has it, and then the plant
--- is out with that seat. What each seat knows is true, and each pass lies in one seat.
+-- `front` counts the calls of the joined book, and `base` those before the current one. While nobody has
+-- the turn the plant is in the slot, on the last book of that life. `turn` names the one seat that has it,
+-- and then the plant is out with that seat. What each seat knows is true, and each pass lies in one seat.
 pub record IsDesk (book : PartRecord) (passes : ℕ) (s : Table) : Type 0 where
   pub deeds : List Deed
   pub turn : ℕ
@@ -94,8 +94,8 @@ holding one slot = (busy one, (0, slot) ∷ [])
 abbrev pub plant_of : Hand → PartRecord
 plant_of one = last_book one.plant one.seen
 
--- The turn was taken, with the plant: the pass has seen all deeds so far, none of them its own but those that it
--- knew.
+-- The turn was taken, with the plant: the pass has seen all deeds so far, none of them its own but those
+-- that it knew.
 pub record Takes (one : Hand) (me : Sat) : Type 0 where
   pub between : List Deed
   pub others : AreOthers one.number between
@@ -156,8 +156,8 @@ pub record IsBoard (id : TableId) : Type 0 where
 abbrev pub Comes : Step Slot → Sat → ℕ → Sat → Type 0
 Comes st me found now = now ≡ (spent, [])
 
--- What is known at the end, where one seat has the hands of all passes: the plant is on the last book of deeds that
--- make an answered life, and what each pass knows of them is true.
+-- What is known at the end, where one seat has the hands of all passes: the plant is on the last book of
+-- deeds that make an answered life, and what each pass knows of them is true.
 pub record IsOver (book : PartRecord) (passes : ℕ) (hands : List Hand) (slot : Slot) : Type 0 where
   pub deeds : List Deed
   pub answered : IsLife (life_of book deeds)

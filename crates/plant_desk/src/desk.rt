@@ -37,8 +37,8 @@ impl Model for PlantDesk {
 }
 
 impl PlantDesk {
-    /// What the inverter may aim at, after a beginning of the joined book that has all that the pass had seen and
-    /// nothing more of its own.
+    /// What the inverter may aim at, after a beginning of the joined book that has all that the pass had
+    /// seen and nothing more of its own.
     pub fn goal<R: Wait>(&self, rt: &R, pass: &mut Pass, inverter: u8) -> Goal
         requires of_desk { pass.old.desk ≡ self.now }
         requires of_site { inverter < inverters self.now.book.site }
@@ -85,8 +85,8 @@ impl PlantDesk {
         }
     }
 
-    /// Gives back a write that was not sent and never will be: the Back of the ticket's write. A full book takes no
-    /// call, and the ticket is dropped.
+    /// Gives back a write that was not sent and never will be: the Back of the ticket's write. A full book
+    /// takes no call, and the ticket is dropped.
     pub fn release<R: Wait>(
         &self,
         rt: &R,
@@ -118,8 +118,8 @@ impl PlantDesk {
         }
     }
 
-    /// Ends the current book, hands it out, and goes on with an empty one of the same room. After a refusal the plant
-    /// is as it was.
+    /// Ends the current book, hands it out, and goes on with an empty one of the same room. After a refusal
+    /// the plant is as it was.
     pub fn roll<R: Wait>(&self, rt: &R, alloc: Global, pass: &mut Pass) -> Result<Book, RollFault>
         requires of_desk { pass.old.desk ≡ self.now }
         ensures same { (pass.new.desk ≡ pass.old.desk) × (pass.new.number ≡ pass.old.number) }

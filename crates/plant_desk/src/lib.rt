@@ -1,8 +1,8 @@
 //! The shared desk: any number of threads enter calls in one ledger, each through a pass of its own.
 //!
 //! Each reply is the one that the joined book asks for, and the joined book begins with all that the pass had
-//! seen. What `PlantDesk::close` hands back is the plant after one life, in which each call of each pass stands
-//! once. No clause says that a turn comes, nor that two threads run at once.
+//! seen. What `PlantDesk::close` hands back is the plant after one life, in which each call of each pass
+//! stands once. No clause says that a turn comes, nor that two threads run at once.
 #![tactic(auto)]
 
 mod board;

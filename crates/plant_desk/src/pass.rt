@@ -4,8 +4,8 @@ use crate::board::{Opening, Place};
 use std::marker::Model;
 use std::snapshot::Snapshot;
 
-/// The right of one caller to enter calls at a desk. It may go to another thread. Contracts see in it the entries
-/// that it made, each with its place, and its rolls; they take no memory.
+/// The right of one caller to enter calls at a desk. It may go to another thread. Contracts see in it the
+/// entries that it made, each with its place, and its rolls; they take no memory.
 #[derive(Drop)]
 pub struct Pass {
     pub(crate) number: u32,

@@ -1,4 +1,5 @@
-//! The steps of one call on the table of a desk: take the turn with the plant, enter or roll, and give both back.
+//! The steps of one call on the table of a desk: take the turn with the plant, enter or roll, and give both
+//! back.
 ghost use Rattle.std.specs.Prelude.{◌≡◌, [], ◌∷◌, length, Option, Some, None, MatchBool};
 ghost use Rattle.plant_book.specs.declared.book.Entry.{Entry};
 ghost use Rattle.plant_book.specs.Part.{PartRecord};
