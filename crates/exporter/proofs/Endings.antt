@@ -4,7 +4,7 @@ use Rattle.std.specs.Prelude.{IfSome}
 use Rattle.std.specs.Io.KnownBytes.{Consumes, IsAtEnd}
 use Rattle.std.proofs.lemmas.List.{append-nil}
 
--- ---- what the source told
+-- what the source told
 
 pub told_whole : (old new : Option (List ℕ)) (bytes : List ℕ) (P : List ℕ → Type 0) → Consumes old new bytes → IsAtEnd new → P bytes → IfSome old P
 told_whole None new bytes P taken at_end holds = tt
@@ -12,7 +12,7 @@ told_whole (Some told) None bytes P taken at_end holds = absurd taken
 told_whole (Some told) (Some left) bytes P taken at_end holds =
     subst P (sym (taken ∙ ap (λ (x : List ℕ). bytes ++ x) at_end ∙ append-nil bytes)) holds
 
--- ---- the words
+-- the words
 
 pub one_word : {A : Type 0} (f : A → List ℕ) (items : List A) (word : A) (text : List ℕ) (test : Bool) → length items ≡ 1 → word ≡ get_or items 0 word
     → (test ≡ true → f word ≡ text) × (f word ≡ text → test ≡ true) → (test ≡ true → map f items ≡ text ∷ []) × (map f items ≡ text ∷ [] → test ≡ true)

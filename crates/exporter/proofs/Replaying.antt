@@ -16,7 +16,7 @@ use Rattle.exporter.specs.Ends.{End}
 use Rattle.exporter.specs.Replay.{site_end, fault_end, written_end, HasBadSite, IsReplayText, TellsSafeLives, IsReplayEnd}
 use Rattle.exporter.proofs.Endings.{if_some_all, if_some_more, told_whole, told_front}
 
--- ---- the ends of one call
+-- the ends of one call
 
 site_ends : (cause : OpenFault) (read : List ℕ) (input output : Change) → IsRefused read cause → ReadsWhole input_limit read input → GainsNothing output → IsReplayEnd (site_end cause) read input output
 site_ends openings.NoInverter read input output is whole nothing = record { cause = (openings.NoInverter, is, refl); read = whole; gained = nothing }
@@ -33,7 +33,7 @@ pub written_ends : (full : Option ℕ) (read : List ℕ) (input output : Change)
 written_ends None read input output whole gained = record { cause = tt; read = whole; gained = gained }
 written_ends (Some calls) read input output whole gained = record { cause = tt; read = whole; gained = gained }
 
--- ---- safe lives
+-- safe lives
 
 tells : (bytes text : List ℕ) (full : Option ℕ) → IsReplay bytes full text → TellsSafeLives text
 tells bytes text full p = (p.script.site, p.script.start, p.deeds, p.text_is, p.safe)
@@ -50,7 +50,7 @@ safe_lives ends.NoMemory read input output row is = elim is [ inl done ↦ absur
 safe_lives (ends.TooLong limit) read input output row is = elim is [ inl done ↦ absurd cc | inr full ↦ let same = full.1 in absurd cc ]
 safe_lives (ends.Refused fault) read input output row is = absurd row
 
--- ---- causes, and what the output gained
+-- causes, and what the output gained
 
 pub bad_line : (ended : Ended) (read : List ℕ) (input output : Change) → IsReplayEnd ended read input output → (line : ℕ) (kind : LineKind) → ended ≡ ends.BadLine line kind → IfSome input.old (λ bytes. IsFirstBadLine bytes line kind)
 bad_line ended read input output row line kind is =
@@ -102,7 +102,7 @@ beyond (ends.TooLong limit) read input output row = if_some_all input.old (Beyon
 beyond ends.BadWords read input output row = absurd row
 beyond (ends.Refused fault) read input output row = absurd row
 
--- ---- which end comes
+-- which end comes
 
 abbrev NotRefused : Type 0
 NotRefused = (bytes : List ℕ) (full : Option ℕ) (text : List ℕ) (fault : ReplayFault) → IsReplay bytes full text → Explains fault bytes → fault ≡ faults.NoMemory

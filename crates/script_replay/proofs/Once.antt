@@ -22,7 +22,7 @@ use Rattle.script_replay.specs.declared.replay.ReplayFault.TheVariants as faults
 use Rattle.script_replay.specs.Chain.{Chain, first_chain, chain_after, chain_behind, IsDone, AreDone}
 use Rattle.script_replay.specs.Replay.{Reaches, IsReplay, IsRefused, Explains, HasRoom}
 
--- ---- the deeds of lines are one
+-- the deeds of lines are one
 
 same_line : (a b : Line) (x y : List Line) → a ∷ x ≡ b ∷ y → a ≡ b
 same_line a b x y e = cc
@@ -88,7 +88,7 @@ same_full chain (one ∷ a) (two ∷ b) call other more rest p q f g e =
     (same_lines (deed_line one) (deed_line two) (map deed_line a ++ lines.One call ∷ more) (map deed_line b ++ lines.One other ∷ rest) e) in
     λ i. first i ∷ later i
 
--- ---- one replay
+-- one replay
 
 at_room : (script : ScriptRecord) (deeds : List Deed) → (chain_behind (first_chain script.site script.start) deeds).calls ≡ script.site.room
     → (chain_behind (first_chain script.site script.start) deeds).calls ≡ (chain_behind (first_chain script.site script.start) deeds).life.site.room
@@ -109,7 +109,7 @@ one_replay bytes a b x y p q =
     let way = one_way p.script a b p.deeds q.deeds p.done (subst (λ (s : ScriptRecord). AreDone (first_chain s.site s.start) q.deeds) same q.done) p.reaches (subst (λ (s : ScriptRecord). Reaches s q.deeds b) same q.reaches) in
     (way.0, p.text_is ∙ ap (λ (d : List Deed). lives_text p.script.site p.script.start d) way.1 ∙ sym (q.text_is ∙ ap (λ (s : ScriptRecord). lives_text s.site s.start q.deeds) same))
 
--- ---- the text of a replay
+-- the text of a replay
 
 front : (acc a b : List Statement) → EachMayFollow acc (a ++ b) → EachMayFollow acc a
 front acc [] b each = tt
@@ -139,7 +139,7 @@ replays_itself bytes full text p =
       text_is = p.text_is;
     }
 
--- ---- where there is room
+-- where there is room
 
 openable_is : (site : SiteRecord) → IsOpenable site → open_fault site ≡ None
 openable_is site openable =
@@ -166,7 +166,7 @@ not_full bytes calls text room p =
     let all : map deed_line room.deeds ≡ p.script.lines = room.all ∙ ap (λ (s : ScriptRecord). s.lines) same in
     no_further (first_chain p.script.site p.script.start) p.deeds room.deeds p.reaches.0 p.reaches.1 p.done done (at_room p.script p.deeds p.reaches.3) (all ∙ p.reaches.2)
 
--- ---- one fault
+-- one fault
 
 pub replay_stands : (bytes : List ℕ) (full : Option ℕ) (text : List ℕ) (fault : ReplayFault) → IsReplay bytes full text → Explains fault bytes → fault ≡ faults.NoMemory
 replay_stands bytes full text faults.NoMemory p explains = refl

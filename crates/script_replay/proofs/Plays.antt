@@ -45,7 +45,7 @@ use Rattle.script_replay.specs.declared.replay.ReplayFault.{ReplayFault}
 use Rattle.script_replay.specs.declared.replay.ReplayFault.TheVariants as faults
 use Rattle.script_replay.specs.Replay.{IsReplay, Explains, RefusesSite, fault_of}
 
--- ---- one more deed
+-- one more deed
 
 pub behind_more : (chain : Chain) (deeds : List Deed) (deed : Deed) → chain_behind chain (deeds ++ deed ∷ []) ≡ chain_after (chain_behind chain deeds) deed
 behind_more chain [] deed = refl
@@ -70,7 +70,7 @@ played_more script count line old new before after less is p does =
       text_is = does.text_is ∙ ap (λ (x : List ℕ). x ++ deed_text does.deed) p.text_is ∙ sym (text_more script.site script.start p.deeds does.deed);
     }
 
--- ---- the last moment, and how many calls there are
+-- the last moment, and how many calls there are
 
 now_after : (chain : Chain) (deed : Deed) → now_of (chain_after chain deed).life ≡ last_of (now_of chain.life) (moment_on (Says (deed_line deed)))
 unfolding now_of latest
@@ -106,7 +106,7 @@ site_behind chain (Rolled ∷ deeds) = site_behind (chain_after chain Rolled) de
 pub site_is : (script : ScriptRecord) (count : ℕ) (part : PartRecord) (text : List ℕ) → Played script count part text → part.site ≡ script.site
 site_is script count part text p = sym (ap (λ (b : BookRecord). b.site) p.stands.life_is) ∙ site_behind (first_chain script.site script.start) p.deeds
 
--- ---- the next line of a script
+-- the next line of a script
 
 begun_behind : (units start : ℕ) (head : List Statement) (its : List Line) → IsBegun units start head → IsBegun units (last_of start (moments its)) (head ++ map (λ line. Says line) its)
 begun_behind units start head [] begun = subst (λ (x : List Statement). IsBegun units start x) (sym (append-nil head)) begun
@@ -169,7 +169,7 @@ line_fits script count line part text each few less is p =
     (begun_behind (length script.site.units) script.start (head_statements script.site script.start) (take count script.lines) (head_is_begun script)) (next_may script count line each less is)
     (ap inverters (site_is script count part text p)) moment_is (λ full. omega (arith, full, calls, most, deeds, few, room))
 
--- ---- a history whose last life goes on, or is followed by the next one
+-- a history whose last life goes on, or is followed by the next one
 
 pub goes_on : (earlier : List BookRecord) (old new : BookRecord) → IsBook new → new.site ≡ old.site → new.start ≡ old.start → IsHistory (record { past = []; earlier = earlier; life = old }) → IsHistory (record { past = []; earlier = earlier; life = new })
 goes_on earlier old new kept site start is = record {
@@ -199,7 +199,7 @@ restarts earlier old new kept site later is = record {
   fits = subst (λ (s : SiteRecord). Fits s []) (sym site) is.fits;
 }
 
--- ---- what the lines do
+-- what the lines do
 
 same_moment : (call : Call) → at_moment (moment call) call ≡ call
 same_moment (calls.Link at inverter) = refl
@@ -308,7 +308,7 @@ rolls old new before after lives added = record {
       };
 }
 
--- ---- the whole
+-- the whole
 
 pub first_played : (script : ScriptRecord) (part : PartRecord) (text : List ℕ) → script.start ≤ MOMENT_MAX → part ≡ record { site = script.site; start = script.start; carry = None; entries = [] } → IsOpenable script.site
     → text ≡ lives_text script.site script.start [] → Played script 0 part text
@@ -336,7 +336,7 @@ pub on_ok : {T E : Type 0} (r : Result T E) (P Q : Type 0) → (P → Q) → OnO
 on_ok (Ok x) P Q f p = f p
 on_ok (Err e) P Q f p = tt
 
--- ---- one line after another
+-- one line after another
 
 -- what was played of a script's first lines was played of the script
 played_in : (script : ScriptRecord) (done more : List Line) (part : PartRecord) (text : List ℕ) → script.lines ≡ done ++ more → Played (record { site = script.site; start = script.start; lines = done }) (length done) part text
@@ -413,7 +413,7 @@ not_further bytes first part left text fault bad r = bad bytes (script_with firs
 pub not_past : (bytes : List ℕ) (first part : PartRecord) (old new : Lines) (text : List ℕ) (line : Line) (fault : ReplayFault) → LineRead old line new → FaultExplained new fault → IsReplayed bytes first old part text → Explains fault bytes
 not_past bytes first part old new text line fault one bad r = bad bytes (script_with first (r.done ++ line ∷ [])) (one.goes_on bytes (script_with first r.done) r.read)
 
--- ---- judging alone
+-- judging alone
 
 pub fault_explains : (fault : ScriptFault) (bytes : List ℕ) → reading.Explains fault bytes → Explains (fault_of fault) bytes
 fault_explains (readings.BadLine line kind) bytes why = why
@@ -427,7 +427,7 @@ pub no_line_left : (found : Option Line) (old new : Lines) → is_some found ≡
 no_line_left (Some line) old new none one = absurd cc
 no_line_left None old new none ends = ends
 
--- ---- from bytes to the text
+-- from bytes to the text
 
 pub start_high : (script : ScriptRecord) → EachMayFollow [] (script_statements script) → script.start ≤ MOMENT_MAX
 start_high script each =

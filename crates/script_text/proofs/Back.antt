@@ -31,7 +31,7 @@ both : (a b : Bool) → cond a b false ≡ true → (a ≡ true) × (b ≡ true)
 both true b e = (refl, e)
 both false b e = absurd cc
 
--- ---- what is written ends no row
+-- what is written ends no row
 
 glyph_plain : (digit : ℕ) (rest : List ℕ) → is_plain rest ≡ true → is_plain (digit_glyph false digit ∷ rest) ≡ true
 glyph_plain digit rest plain =
@@ -76,7 +76,7 @@ words_plain (word ∷ words) plain =
     let parts = written_plain word words plain in
     plain_more (written word) (flat_map (λ word. 32 ∷ word) (map written words)) parts.0 (spaces_plain words parts.1)
 
--- ---- a line that is written, with or without a reply
+-- a line that is written, with or without a reply
 
 -- the numbers of words are such that what is written is read
 abbrev pub FitWord : Word → Type 0
@@ -227,7 +227,7 @@ deed_row (Entered entry) range = entry_row entry.call entry.reply range
 deed_row (Begun at) range = replied_row (Says (lines_of.Restart at)) (Text (codes "restart")) (Number at ∷ []) (Text (codes "begun") ∷ []) refl range refl
 deed_row Rolled range = replied_row (Says lines_of.Roll) (Text (codes "roll")) [] (Text (codes "rolled") ∷ []) refl range refl
 
--- ---- rows one behind the other
+-- rows one behind the other
 
 abbrev AreRows : List (List ℕ) → List Statement → Type 0
 AreRows [] [] = Unit {0}

@@ -22,7 +22,7 @@ pub chosen : {A : Type 0} (b : Bool) (x y z : A) → cond b x y ≡ z → ((b �
 chosen true x y z e = inl (refl, e)
 chosen false x y z e = inr (refl, e)
 
--- ---- the lines of std
+-- the lines of std
 
 abbrev before : List ℕ → List ℕ
 before [] = []
@@ -101,7 +101,7 @@ lines_first bytes some =
           ap lines_of_parts first ∙ ap (λ (x : List ℕ). lines_of_parts (x ∷ [])) all.0 ∙ rw long (ap (λ (x : List ℕ). x ∷ lines []) (sym all.1) ∙ ap (λ (x : List ℕ). row_at bytes ∷ lines x) (sym all.2))
     ]
 
--- ---- the parts of a row
+-- the parts of a row
 
 -- no byte of a text ends a row
 abbrev pub is_plain : List ℕ → Bool
@@ -189,7 +189,7 @@ end_taken (byte ∷ more) rest e =
           ]
     ]
 
--- ---- a row is put together again
+-- a row is put together again
 
 abbrev pub ending_of : List ℕ → List ℕ
 ending_of [] = []

@@ -32,7 +32,7 @@ pub behind_is : {X : Type 0} (o : Option (List ℕ)) (read : List ℕ → Option
 behind_is (Some rest) read other y e = inl (rest, refl, e)
 behind_is None read other y e = inr e
 
--- ---- digits
+-- digits
 
 pub outside : (low high c : ℕ) → (ltb c low || ltb high c) ≡ false → (low ≤ c) × (c ≤ high)
 outside low high c e = grind (arith, nat_tests)
@@ -85,7 +85,7 @@ digits_front (digit ∷ digits) more are none =
     let inner = digits_front digits more are.2 none in
     (rw test (ap (λ (x : List ℕ). digit ∷ x) inner.0), rw test inner.1)
 
--- ---- numbers
+-- numbers
 
 -- a number that was read, and how it is spelled
 pub record Taken (most : ℕ) (bytes : List ℕ) (value : ℕ) (rest : List ℕ) : Type 0 where
@@ -164,7 +164,7 @@ pub next_found : (most : ℕ) (word more : List ℕ) (number : ℕ) → 9 ≤ mo
 unfolding next_at
 next_found most word more number big is none = number_found most word more number big is none
 
--- ---- numbers that may be below zero
+-- numbers that may be below zero
 
 pub record SignedTaken (most_size : ℕ) (bytes : List ℕ) (value : ℤ) (rest : List ℕ) : Type 0 where
   pub word : List ℕ
@@ -232,7 +232,7 @@ signed_found most most_size word more (negsuc n) big le (size, spelled, is) none
     let same : min (min (suc n) most) most_size ≡ min (suc n) most_size = omega (arith, le) in
     rw spelled (rw (number_found most size more (suc n) big is none, some_number most n big, same) refl)
 
--- ---- what is written
+-- what is written
 
 own : IsNumeralModel IsDigits (value_behind 0)
 own = numerals_by_fold _ (search rules) value_behind (search rules)

@@ -20,7 +20,7 @@ use Rattle.script_text.specs.Script.{ScriptRecord, Say, statements_of, begin_on,
 use Rattle.script_text.proofs.Spelled.{spelled_once, no_comment}
 use Rattle.script_text.proofs.Taken.{no_begins}
 
--- ---- two statements of the same words are one
+-- two statements of the same words are one
 
 over : {A B : Type 0} (P : A → Type 0) (make : (x : A) → P x → B) → ((x : A) → IsProp (P x)) → (x y : A) → x ≡ y → (p : P x) (q : P y) → make x p ≡ make y q
 over {A} P make prop x y e = subst (λ (z : A). (p : P x) (q : P z) → make x p ≡ make z q) e (λ p q. ap (make x) (prop x p q))
@@ -133,7 +133,7 @@ same_script a b e =
       lines = more.lines_are i;
     }
 
--- ---- rows say the same
+-- rows say the same
 
 says_none : (one : Option Statement) (more : List (Option Statement)) → Say [] (one ∷ more) → ⊥
 says_none None more p = p
@@ -156,7 +156,7 @@ say_once (row ∷ rows) (Some a ∷ x) (Some b ∷ y) p q =
 pub one_script : (bytes : List ℕ) (a b : ScriptRecord) → IsScript bytes a → IsScript bytes b → a ≡ b
 one_script bytes a b p q = same_script a b (sym p.statements ∙ ap statements_of (say_once (lines bytes) p.said q.said p.say q.say) ∙ q.statements)
 
--- ---- a row that is bad isn't among rows that are not
+-- a row that is bad isn't among rows that are not
 
 lacks_may : (kind : LineKind) (before : List Statement) (statement : Statement) → Lacks kind before statement → MayFollow before statement → ⊥
 lacks_may kinds.Form before statement lacks may = lacks may.place
@@ -223,7 +223,7 @@ by_rest kind (row ∷ rest) script all said before say is each say' bad = inside
 pub not_both : (bytes : List ℕ) (script : ScriptRecord) (line : ℕ) (kind : LineKind) → IsScript bytes script → IsFirstBadLine bytes line kind → ⊥
 not_both bytes script line kind p q = by_rest kind q.rest script p.said q.said q.before (subst (λ (x : List (List ℕ)). Say x p.said) q.rows p.say) p.statements (subst (λ (x : List Statement). EachMayFollow [] x) (sym p.statements) p.each) q.say q.bad
 
--- ---- the first bad line
+-- the first bad line
 
 same_lack : (j k : LineKind) (before : List Statement) (statement : Statement) → Lacks j before statement → Lacks k before statement → j ≡ k
 same_lack kinds.Form kinds.Form before statement p q = refl

@@ -62,7 +62,7 @@ no_line old ends bytes script has =
 pub no_more : (old : Lines) (fault : ScriptFault) → LineFault old.rows old.inverters old.latest fault → FaultExplained old fault
 no_more old fault bad = λ bytes script has. subst (λ (w : List ℕ). Explains fault w) has.whole (bad (script_statements script) has.is_at has.is_begun)
 
--- ---- lines one behind the other
+-- lines one behind the other
 
 pub none_more : (bytes : List ℕ) (script : ScriptRecord) (lines : Lines) → HasRead bytes script lines → HasRead bytes (with_lines script []) lines
 none_more bytes script lines has =

@@ -17,7 +17,7 @@ use Rattle.script_text.specs.Reading.{◌>>=◌, rest_after, reading, begins_wit
 use Rattle.script_text.proofs.LineEnds.{some, some_is, none_some, is_plain, plain_more, row_past, behind_past, end_taken, ending_of, row_parts, row_ends, row_lacks, lacks_feed, lacks_back, end_found, unread_ends}
 use Rattle.script_text.proofs.Numbers.{bind_some, after_is, behind_is, no_digit, next_taken, next_found, signed_taken, signed_found}
 
--- ---- words one behind the other
+-- words one behind the other
 
 -- words of these kinds stand at the front, each behind a space
 pub record Behind (kinds : List Word) (bytes tail : List ℕ) : Type 0 where
@@ -74,7 +74,7 @@ words_plain (kind ∷ kinds) (word ∷ words) are plain =
     let both = both_plain (kind_plain kind) (kinds_plain kinds) plain in
     plain_more word (flat_map (λ word. 32 ∷ word) words) (word_plain kind word are.0 both.0) (words_plain kinds words are.1 both.1)
 
--- ---- what is read is spelled
+-- what is read is spelled
 
 pub record Row (bytes rest : List ℕ) (statement : Statement) : Type 0 where
   pub is : IsSpelled (row_at bytes) statement
@@ -309,7 +309,7 @@ fields_taken most most_size bytes x big le e0 =
           ]
     ]
 
--- ---- what is spelled is read
+-- what is spelled is read
 
 -- a word that was read, with the words behind it
 record Step {A : Type 0} (read : Option (A × List ℕ)) (value : A) (kinds : List Word) (tail : List ℕ) : Type 0 where
@@ -511,7 +511,7 @@ row_found most most_size bytes statement big le is =
     ap (fields_at most most_size) parts
     ∙ words_found most most_size statement is.words (is.unread ++ end) (behind_row bytes) big le is.are (no_digit_unread is.unread end is.is_unread (no_digit_end bytes)) (end_found is.unread end (behind_row bytes) is.is_unread lacks (row_ends bytes))
 
--- ---- a row spells one statement
+-- a row spells one statement
 
 abbrev word_size : Word → ℕ
 word_size (Text text) = 0

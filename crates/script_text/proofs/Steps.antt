@@ -88,7 +88,7 @@ ends_early bytes statements number p none = record {
   count = p.count;
 }
 
--- ---- what one more statement tells
+-- what one more statement tells
 
 pub begins_more : (before : List Statement) (statement : Statement) → begins_in (before ++ statement ∷ []) ≡ begins_in before ++ begin_on statement
 begins_more before statement = flat_map-append begin_on before (statement ∷ []) ∙ ap (λ (x : List ℕ). begins_in before ++ x) (append-nil (begin_on statement))

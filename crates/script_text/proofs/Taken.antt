@@ -120,7 +120,7 @@ line_taken rows behind numbers inverters latest line said few judged = record {
       subst (λ (x : Statement). IsAt behind (before ++ x ∷ [])) (sym j.0) (said.goes_on before at j.1);
 }
 
--- ---- inverters
+-- inverters
 
 pub no_begins : (units : List unit.Unit) → begins_in (map inverter_statement units) ≡ []
 no_begins [] = refl
@@ -157,7 +157,7 @@ pub units_fault : (first rows : Rows) (units : List unit.Unit) (fault : ScriptFa
 units_fault first rows units fault bad whole before = λ site none at.
     subst (λ (w : List ℕ). Explains fault w) whole (bad (site ∷ map inverter_statement units) (before site none at) (omega arith) (head_begins site units none))
 
--- ---- the whole
+-- the whole
 
 head_inverters : (site : Statement) (units : List unit.Unit) → inverters_in (site ∷ map inverter_statement units) ≡ inverters_in (site ∷ []) + length units
 head_inverters site units =
@@ -181,7 +181,7 @@ whole_script bytes script statements number p are = record {
   each = subst (λ (x : List Statement). EachMayFollow [] x) are p.each;
 }
 
--- ---- small facts of the code
+-- small facts of the code
 
 pub comment_some : (bytes : List ℕ) → IsComment (row_at bytes) → 1 ≤ length bytes
 comment_some [] is = absurd is
@@ -195,7 +195,7 @@ fewer bytes rest number numbers some read few =
     let found = fields_taken number_most size_most bytes (numbers, rest) most_big size_small read in
     omega (arith, few, behind_short bytes some, ap length found.row.behind)
 
--- ---- the parts of a script one behind the other
+-- the parts of a script one behind the other
 
 abbrev pub first_rows : Bor (List ℕ) → Rows
 first_rows bytes = record { whole = bytes; rest = bytes; number = 1 }

@@ -34,7 +34,7 @@ abbrev pub reading : {X : Type 0} → Option (List ℕ) → (List ℕ → Option
 reading None read other = other
 reading (Some rest) read other = read rest
 
--- ---- rows
+-- rows
 
 abbrev pub begins_with : ℕ → List ℕ → Bool
 begins_with byte [] = false
@@ -65,7 +65,7 @@ end_at [] = Some []
 end_at (byte ∷ rest) =
     if byte == 10 then Some rest else if byte == 13 then feed_at rest else remark_at (byte ∷ rest)
 
--- ---- numbers
+-- numbers
 
 -- the greatest number that is read, and the greatest size of one that may be below zero
 abbrev pub number_most : ℕ
@@ -120,7 +120,7 @@ policy_at bytes =
     reading (rest_after (codes " open") bytes) (λ rest. Some (policies.Open, rest))
     (reading (rest_after (codes " fair") bytes) (λ rest. Some (policies.Fair, rest)) None)
 
--- ---- the numbers of a row
+-- the numbers of a row
 
 unfoldable pub none_at : Fields → List ℕ → Option (Fields × List ℕ)
 none_at made bytes = do
@@ -197,7 +197,7 @@ fields_at most most_size bytes =
     (reading (rest_after (codes "site") bytes) (site_at most)
     (reading (rest_after (codes "begin") bytes) (one_at most fields.Begin) None)))))))))))))
 
--- ---- what numbers say
+-- what numbers say
 
 -- the statement of these numbers
 abbrev pub statement_of : Fields → Statement

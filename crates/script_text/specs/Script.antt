@@ -36,7 +36,7 @@ Say _ _ = ⊥
 abbrev pub statements_of : List (Option Statement) → List Statement
 statements_of said = flat_map option_to_list said
 
--- ---- what the statements before a line tell
+-- what the statements before a line tell
 
 abbrev pub inverter_on : Statement → List Statement
 inverter_on (Inverter wmax wsf psf floor) = Inverter wmax wsf psf floor ∷ []
@@ -69,7 +69,7 @@ begin_on _ = []
 abbrev pub begins_in : List Statement → List ℕ
 begins_in before = flat_map begin_on before
 
--- ---- what a line has to meet, in the order in which it is tried
+-- what a line has to meet, in the order in which it is tried
 
 -- It is at its place: the site line first, then inverters, then the one begin, then the other lines.
 abbrev pub HasPlace : List Statement → Statement → Type 0
@@ -125,7 +125,7 @@ EachMayFollow before [] = Unit {0}
 EachMayFollow before (statement ∷ later) =
     MayFollow before statement × EachMayFollow (before ++ statement ∷ []) later
 
--- ---- scripts
+-- scripts
 
 abbrev pub site_statement : ℕ → Rules → Policy → ℕ → Statement
 site_statement cap rules policy room =

@@ -17,7 +17,7 @@ use Rattle.site_config.specs.declared.key.Key.TheVariants as keys
 use Rattle.site_config.specs.Keys.{name_of, value_at, tables_of, as_tables, inverters_at}
 use Rattle.site_config.proofs.Weights.{get_member_within, weight, items_weight, members_weight, nodes_weight, definition_weight, items_weight-push, members_weight-close, put_adds, define_adds}
 
--- ---- blanks
+-- blanks
 
 shorter_if : (b : Bool) (x y : List ℕ) (much : ℕ) → length x ≤ much → length y ≤ much → length (cond b x y) ≤ much
 shorter_if true x y much a c = a
@@ -46,7 +46,7 @@ begun : (text : List ℕ) (byte : ℕ) → (first text == byte) ≡ true → 0 <
 begun [] byte is some = absurd (grind (arith, nat_tests))
 begun (c ∷ cs) byte is some = omega arith
 
--- ---- readings that leave no more than was there
+-- readings that leave no more than was there
 
 -- what holds of a value that may be there
 pub record Holds {A : Type 0} (o : Option A) (P : A → Type 0) : Type 0 where
@@ -177,7 +177,7 @@ key_after_leaves (suc n) path text =
 key_leaves : (text : List ℕ) → Holds (key text) (λ p. length p.1 ≤ length text)
 key_leaves text = key_after_leaves recursion_limit [] text
 
--- ---- values
+-- values
 
 -- a value that was read and what is left are less than the text
 abbrev Costs : Read Data → ℕ → Type 0
@@ -276,7 +276,7 @@ val_costs (suc depth) = record {
       (λ _. atom_costs text));
 }
 
--- ---- lines
+-- lines
 
 header_key_leaves : (text : List ℕ) → Holds (header_key text) (λ k. length k.1 ≤ length text)
 unfolding header_key
@@ -329,7 +329,7 @@ document_weight text whole parsed =
     (weaker (lines (suc (length text)) (no_nodes, []) (skip_bom text)) (λ last l. omega (arith, members_weight-close last.0, skip_bom_within text)) (lines_cost (suc (length text)) (no_nodes, []) (skip_bom text))) in
     (rw parsed at h.it)
 
--- ---- the inverters of a document
+-- the inverters of a document
 
 tables_within : (items : Items) → Holds (tables_of items) (λ tables. length tables ≤ items_weight items)
 tables_within no_items = some (omega arith)

@@ -45,7 +45,7 @@ mutual
   members_weight-close no_nodes = refl
   members_weight-close (node key first more) = omega (arith, weight-close_node first, members_weight-close more)
 
--- ---- a change of nodes
+-- a change of nodes
 
 -- what holds of a value that may be there, through steps that may fail
 pub IfSome-bind : {A B : Type 0} (o : Option A) (f : A → Option B) (P : B → Type 0) → IfSome o (λ a. IfSome (f a) P) → IfSome (option_and_then f o) P
@@ -192,7 +192,7 @@ pub define_adds : (doc : Document) (e : Expression) → IfSome (define doc e) (�
 unfolding define
 define_adds doc e = define_as_adds doc e.0 e.1
 
--- ---- what a table holds at a key
+-- what a table holds at a key
 
 held_within : (o : Ordering) (rest : Option Data) (held : Data) (much : ℕ) → IfSome rest (λ d. weight d ≤ much)
     → IfSome (match_ordering o rest (Some held) rest) (λ d. weight d ≤ weight held + much)
