@@ -242,7 +242,8 @@ impl Simulation {
         requires named { named call ≡ Some number }
         requires moment { moment call ≤ 10 ^ 15 }
         requires in_range { IsInRange call }
-        ensures { OnOk result (self.new ≡ steps.changed number (rule.queued (calls.reply_in self.old call)) (calls.called call self.old)) }
+        ensures { OnOk result (self.new ≡ steps.changed number
+            (rule.queued (calls.reply_in self.old call)) (calls.called call self.old)) }
     {
         let reply = self.enter(call);
         self.queue(number, &reply)
@@ -294,7 +295,8 @@ impl Simulation {
     fn see(&mut self, number: u8, read: u16)
         requires ready { IsReady self.old }
         requires of_site { number < length self.old.inverters }
-        ensures { self.new ≡ calls.called (Call.Saw self.old.moment number read (held_by self.old number)) self.old }
+        ensures { self.new ≡ calls.called
+            (Call.Saw self.old.moment number read (held_by self.old number)) self.old }
     {
         let call = Call::Saw {
             at: self.moment,
@@ -403,7 +405,8 @@ impl Simulation {
         requires of_site { number < length self.old.inverters }
         requires place { place < length (steps.old_of number self.old) }
         ensures chosen { IfOk result (λ chosen. slice_get (steps.old_of number self.old) place ≡ Some chosen) }
-        ensures left { IfOk result (λ chosen. self.new ≡ steps.changed number (rule.without_old place chosen) self.old) }
+        ensures left { IfOk result (λ chosen.
+            self.new ≡ steps.changed number (rule.without_old place chosen) self.old) }
     {
         let inverter = &mut self.inverters[usize::from(number)];
         match inverter.take_old(place) {
@@ -417,7 +420,8 @@ impl Simulation {
         requires ready { IsReady self.old }
         requires of_site { number < length self.old.inverters }
         requires place { place < length (steps.old_of number self.old) }
-        ensures { OnOk result (self.new ≡ steps.by_place number place (slice_get (steps.old_of number self.old) place) self.old) }
+        ensures { OnOk result (self.new ≡ steps.by_place number place
+            (slice_get (steps.old_of number self.old) place) self.old) }
     {
         let chosen = self.take_old(number, place)?;
         self.act(number, &chosen.write);
