@@ -1,12 +1,13 @@
 -- What the level of claims is.
-use Rattle.std.proofs.Common.{◌≡◌, ℕ, zero, suc, ◌+◌, ◌<◌, ◌≤◌, leb, List, map, refl, sym, ap, arith}
+use Rattle.std.proofs.Common.{◌≡◌, ℕ, zero, suc, ◌+◌, ◌<◌, ◌≤◌, leb, Bool, true, false, List, map, refl, sym, ap, ◌∙◌, arith, inl, inr}
 use Rattle.std.specs.Prelude.{sum_by, IsPermutation}
 use Rattle.std.specs.List.{range_with_len}
 use Rattle.std.proofs.lemmas.List.Sorted.{sum_by-IsPermutation}
-use Rattle.std.proofs.lemmas.Bool.{le-leb, lt-leb, leb-false}
+use Rattle.std.proofs.lemmas.Bool.{le-leb, lt-leb, leb-false, leb-true, cases_Bool, cases_lt}
 use Rattle.share_policy.specs.declared.claim.Claim.{Claim}
 use Rattle.share_policy.specs.Shares.{share_at, level_of}
-use Rattle.share_policy.proofs.Greatest.{greatest_up_to-step, greatest_up_to-same}
+use Rattle.share_policy.proofs.Greatest.{greatest_up_to-step, greatest_up_to-same, greatest_up_to-le, greatest_up_to-most, greatest_up_to-passes}
+use Rattle.limiter_num.specs.Greatest.{greatest_up_to}
 use Rattle.share_policy.proofs.Totals.{shares_mono}
 
 -- a level at which the shares fit under the cap, where they don't a milliwatt above it, is the level
@@ -19,6 +20,34 @@ level_of-step cap level claims high within tight =
     high
     (le-leb (sum_by (share_at level) claims) cap within)
     (λ below. lt-leb (sum_by (share_at (level + 1)) claims) cap (tight below))
+
+-- where the shares at a level fit under the cap, the level is at most the greatest, and where they don't it is above it
+pub level_of-reached : (cap level : ℕ) (claims : List Claim) → sum_by (share_at 0) claims ≤ cap → level ≤ cap
+    → leb (sum_by (share_at level) claims) cap ≡ leb level (level_of cap claims)
+unfolding level_of
+level_of-reached cap level claims first within =
+    let test = fits_at cap claims in
+    let most = greatest_up_to cap test in
+    elim (cases_Bool (leb (sum_by (share_at level) claims) cap)) [
+      | inl fits ↦ fits ∙ sym (le-leb level most (greatest_up_to-most cap level test within fits))
+      | inr fails ↦ fails ∙ sym (lt-leb level most (above fails (greatest_up_to-passes cap test (le-leb (sum_by (share_at 0) claims) cap first))))
+    ]
+  where
+    fits_at : ℕ → List Claim → ℕ → Bool
+    fits_at most its k = leb (sum_by (share_at k) its) most
+
+    above : {most : ℕ} → leb (sum_by (share_at level) claims) cap ≡ false → leb (sum_by (share_at most) claims) cap ≡ true → most < level
+    above {most} fails fits =
+        elim (cases_lt most level) [
+          | inl lt ↦ lt
+          | inr le ↦ absurd (omega (arith, leb-false (sum_by (share_at level) claims) cap fails, leb-true (sum_by (share_at most) claims) cap fits, shares_mono level most le claims))
+        ]
+
+-- no level beyond the cap is reached
+pub level_of-beyond : (cap level : ℕ) (claims : List Claim) → cap < level → leb level (level_of cap claims) ≡ false
+unfolding level_of
+level_of-beyond cap level claims beyond =
+    lt-leb level (greatest_up_to cap (λ k. leb (sum_by (share_at k) claims) cap)) (omega (arith, beyond, greatest_up_to-le cap (λ k. leb (sum_by (share_at k) claims) cap)))
 
 -- claims in another order have the same level
 pub level_of-order : (cap : ℕ) (claims others : List Claim) → IsPermutation claims others → level_of cap claims ≡ level_of cap others

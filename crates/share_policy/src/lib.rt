@@ -1,7 +1,8 @@
 //! Shares the watts under a cap: the level up to which every claim is served, and the target of each claim at it.
 //!
 //! The layer above relies on one contract: `level` is the greatest level from 0 to the cap at which the targets of all
-//! claims sum to at most the cap. So the targets are max-min fair.
+//! claims sum to at most the cap. So the targets are max-min fair. `reaches` tells with less work whether it is at least
+//! some level.
 #![tactic(auto)]
 
 mod claim;
@@ -10,7 +11,7 @@ mod shares;
 
 pub use claim::{Claim, Policy};
 pub use laws::level_depends_on_claims_alone;
-pub use shares::{level, target};
+pub use shares::{level, reaches, target};
 
 #[cfg(test)]
 mod tests;

@@ -1,5 +1,5 @@
 //! The level and the targets.
-ghost use Rattle.std.specs.Prelude.{◌≡◌, ◌+◌, ◌<◌, ◌≤◌, ◌^◌, sum_by, count_by};
+ghost use Rattle.std.specs.Prelude.{◌≡◌, ◌+◌, ◌<◌, ◌≤◌, ◌^◌, nat_le, sum_by, count_by};
 ghost use Rattle.share_policy.specs.Shares.{share_at, rises, level_of, target_of};
 ghost use Rattle.share_policy.specs.Claims.{IsFeasible};
 ghost use Rattle.share_policy.specs.Fairness.{IsMaxMinFair};
@@ -32,6 +32,14 @@ pub fn level(cap: u64, claims: &[Claim]) -> u64
         }
     }
     low
+}
+
+/// Whether the level of the fair shares is at least this one, both in mW. It goes through the claims once.
+pub fn reaches(cap: u64, claims: &[Claim], level: u64) -> bool
+    requires { IsFeasible cap claims.now }
+    ensures { result ≡ nat_le level (level_of cap claims.now) }
+{
+    level <= cap && total_at(level, claims) <= cap
 }
 
 /// The number above the first and up to the second that is nearest to a guess.

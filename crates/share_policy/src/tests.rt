@@ -12,6 +12,8 @@ fn claim(floor: u64, wish: u64, rated: u64) -> Claim
 fn a_level_serves_small_wishes_whole(rt: HostRuntime) {
     let claims = [claim(0, 1, 10), claim(0, 5, 10), claim(0, 9, 10)];
     assert_eq!(rt; level(10, &claims), 4);
+    assert!(rt; reaches(10, &claims, 4));
+    assert!(rt; !reaches(10, &claims, 5));
     assert_eq!(rt; target(Policy::Fair, 4, &claims[0]), 1);
     assert_eq!(rt; target(Policy::Fair, 4, &claims[1]), 4);
     assert_eq!(rt; target(Policy::Fair, 4, &claims[2]), 4);
