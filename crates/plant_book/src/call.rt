@@ -25,16 +25,16 @@ const _: () = prove!(LIVE_MAX == 32);
 /// A limit that was granted: the right to send one write of the six registers of WMaxLimPct.
 #[derive(Clone, Copy, Debug, Default, PartialEq, Eq)]
 pub struct Write {
-    /// The number of the inverter, from 0.
-    pub inverter: u8,
+    /// The moment of the grant, in ms.
+    pub at: u64,
     /// The number of the link on which it may be sent, from 1.
     pub link: u32,
     /// The number of the request on its link, from 1.
     pub number: u16,
-    /// The moment of the grant, in ms.
-    pub at: u64,
     /// The limit as a raw percentage.
     pub raw: u16,
+    /// The number of the inverter, from 0.
+    pub inverter: u8,
 }
 
 /// A read-back that was numbered.
