@@ -1,5 +1,5 @@
 -- What each call makes of the list of an inverter's live writes.
-use Rattle.std.specs.Prelude.{ℕ, ◌^◌, Bool, not, ◌&&◌, ◌==◌, nat_lt, List, filter}
+use Rattle.std.specs.Prelude.{ℕ, ◌^◌, ◌≤◌, Bool, not, ◌&&◌, ◌==◌, nat_lt, List, length, drop, filter}
 use Rattle.limiter_num.specs.declared.rules.Rules.{Rules}
 use Rattle.limiter_num.specs.Timers.{last_moment}
 use Rattle.plant_book.specs.declared.call.Write as writes
@@ -27,3 +27,8 @@ has_raw raw write = write.raw == raw
 -- the writes that a test doesn't find, in their order
 abbrev pub without : (writes.Write → Bool) → List writes.Write → List writes.Write
 without test its_writes = filter (λ write. not (test write)) its_writes
+
+-- what a list keeps to: the writes behind those that are gone are few
+pub record IsKept (kept : List writes.Write) (gone : ℕ) : Type 0 where
+  pub within : gone ≤ length kept
+  pub few : length (drop gone kept) ≤ live_max
