@@ -5,3 +5,5 @@ pub mod Kept
 pub mod Sights
 pub mod Lives
 pub mod Running
+pub mod Reaching
+pub mod Queued

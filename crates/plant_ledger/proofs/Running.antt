@@ -1,6 +1,6 @@
 -- What the ledger keeps of all accounts together, and how it follows the calls.
 use Rattle.std.proofs.Common.{◌≡◌, ℕ, suc, ◌+◌, ◌-◌, ◌*◌, ◌^◌, ◌<◌, ◌≤◌, true, ◌&&◌, eqb, List, [], ◌∷◌, ◌++◌, length, get_or, map, Option, Some, None, refl, sym, ap, subst, ◌∙◌, add-zero, arith, append_assoc, inl, inr}
-use Rattle.std.specs.Prelude.{Result, Ok, Err, IfOk, sum_by, max, IfSome, slice_get, slice_set}
+use Rattle.std.specs.Prelude.{Result, Ok, Err, IfOk, sum_by, max, slice_get, slice_set}
 use Rattle.std.specs.List.{All, range_with_len}
 use Rattle.std.proofs.lemmas.Bool.{le-ltb, and_parts, eqb-true, cases_Bool}
 use Rattle.std.proofs.lemmas.Simd.{map-map}
@@ -37,16 +37,18 @@ use Rattle.uncertain_writes.specs.Live.{is_past, without}
 use Rattle.uncertain_writes.proofs.Lists.{fold_max-from}
 use Rattle.plant_ledger.specs.declared.sums.Sums.{Sums}
 use Rattle.plant_ledger.specs.Account.{Account, IsAccount, AreFrom, most_of, reserved_of, claim_by, unit_by}
-use Rattle.plant_ledger.specs.Ledger.{AreAccounts, AreSums, IsLevel, IsFallLevel, account_at, mark_after}
+use Rattle.plant_ledger.specs.declared.sums.Known.{Known}
+use Rattle.plant_ledger.specs.declared.sums.Known.TheVariants as known
+use Rattle.plant_ledger.specs.Ledger.{AreAccounts, AreSums, IsOf, IsLevel, IsFallLevel, account_at, mark_after}
 
 -- what holds of a value holds of what follows from it
 pub if_ok : {T E : Type 0} (result : Result T E) (P Q : T → Type 0) → ((value : T) → P value → Q value) → IfOk result P → IfOk result Q
 if_ok (Ok value) P Q then fact = then value fact
 if_ok (Err fault) P Q then fact = tt
 
--- a level that isn't made is right
-pub no_level : (cap : ℕ) (accounts : List Account) (level : Option ℕ) → level ≡ None → IsLevel cap accounts level
-no_level cap accounts level none = rw none tt
+-- nothing that is known is right
+pub no_level : (cap : ℕ) (accounts : List Account) (level : Known) → level ≡ known.AtLeast 0 → IsLevel cap accounts level
+no_level cap accounts level none = rw none (omega arith)
 
 pub no_fall_level : (cap : ℕ) (site : SiteRecord) (level : Option ℕ) → level ≡ None → IsFallLevel cap site level
 no_fall_level cap site level none = rw none tt
@@ -213,7 +215,7 @@ same_claims claim other is =
     claim_with claim.floor claim.wish claim.rated other.floor other.wish other.rated (eqb-true claim.floor other.floor floors.0) (eqb-true claim.wish other.wish others.0) (eqb-true claim.rated other.rated others.1)
 
 -- and their level, where its claim didn't
-pub level_next : (cap : ℕ) (accounts : List Account) (inverter : ℕ) (account otherwise : Account) (level : Option ℕ) → claim_by account ≡ claim_by (get_or accounts inverter otherwise)
+pub level_next : (cap : ℕ) (accounts : List Account) (inverter : ℕ) (account otherwise : Account) (level : Known) → claim_by account ≡ claim_by (get_or accounts inverter otherwise)
     → IsLevel cap accounts level → IsLevel cap (slice_set accounts inverter account) level
 level_next cap accounts inverter account otherwise level same is =
-    subst (λ (claims : List Claim). IfSome level (λ (mw : ℕ). mw ≡ level_of cap claims)) (sym (map-set_same claim_by accounts inverter account otherwise same)) is
+    subst (λ (claims : List Claim). IsOf level (level_of cap claims)) (sym (map-set_same claim_by accounts inverter account otherwise same)) is

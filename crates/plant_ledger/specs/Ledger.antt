@@ -20,8 +20,12 @@ use Rattle.uncertain_writes.specs.Live.{is_past, without}
 use Rattle.share_policy.specs.Shares.{level_of}
 use Rattle.plant_book.specs.Policy.{fall_claims}
 use Rattle.plant_ledger.specs.declared.sums.Sums.{Sums}
+use Rattle.plant_ledger.specs.declared.sums.Known.{Known}
+use Rattle.plant_ledger.specs.declared.sums.Known.TheVariants as known
 use Rattle.plant_ledger.specs.Account.{Account, IsAccount, AreFrom, reserved_of, claim_by}
 use Rattle.plant_ledger.specs.Plant.{IsKept}
+use Rattle.plant_ledger.specs.Queue.{AreQueued}
+use Rattle.revert_timers.specs.declared.expiries.Due.{Due}
 
 -- the last book of a life, and a moment from its last one on
 pub record LedgerRecord : Type 0 where
@@ -68,11 +72,16 @@ pub record AreSums (accounts : List Account) (sums : Sums) : Type 0 where
   pub each : All (λ account. reserved_of account ≤ 65535 * 10 ^ 12) accounts
   pub oldest : All (λ account. AreFrom sums.oldest account.live) accounts
 
--- a level that is kept is that of the claims under the cap
-abbrev pub IsLevel : ℕ → List Account → Option ℕ → Type 0
-IsLevel cap accounts level = IfSome level (λ mw. mw ≡ level_of cap (map claim_by accounts))
+-- what is known of a level is right
+abbrev pub IsOf : Known → ℕ → Type 0
+IsOf (known.AtLeast mw) level = mw ≤ level
+IsOf (known.Is mw) level = mw ≡ level
 
--- so is that of the fall shares
+-- what is known of the level of the claims under the cap is right
+abbrev pub IsLevel : ℕ → List Account → Known → Type 0
+IsLevel cap accounts level = IsOf level (level_of cap (map claim_by accounts))
+
+-- a level of the fall shares that is kept is theirs
 abbrev pub IsFallLevel : ℕ → SiteRecord → Option ℕ → Type 0
 IsFallLevel cap site level = IfSome level (λ mw. mw ≡ level_of cap (fall_claims site))
 
@@ -81,13 +90,14 @@ abbrev pub mark_after : Option marks.CapMark → Entry → ℕ → Option marks.
 mark_after mark entry total = if sets_cap entry then Some (record { at = moment entry.call; was = total }) else mark
 
 -- All that the ledger keeps: each number is the definition's of the lives that go on in this book.
-pub record Keeps (part : PartRecord) (now : ℕ) (accounts : List Account) (together : Sums) (cap : ℕ) (stopped : Bool)
+pub record Keeps (part : PartRecord) (now : ℕ) (accounts : List Account) (queue : List Due) (together : Sums) (cap : ℕ) (stopped : Bool)
     : Type 0 where
   pub numbers : IsLedgerOf part now accounts cap stopped
   pub sums : AreSums accounts together
   pub level : IsLevel cap accounts together.level
   pub fall : IsFallLevel cap part.site together.fall
   pub set : EachBook part (λ whole. together.set ≡ mark_of whole)
+  pub queued : AreQueued part.site.rules queue together.unqueued accounts
 
 -- an account at a later moment: what is past by then is gone
 abbrev pub account_at : Rules → ℕ → Account → Account

@@ -1,4 +1,5 @@
 pub mod Account
+pub mod Queue
 pub mod Ledger
 pub mod Opening
 pub mod Release

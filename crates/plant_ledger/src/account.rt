@@ -2,6 +2,7 @@
 ghost use Rattle.std.specs.Prelude.{◌≡◌, ℕ, ◌+◌, ◌*◌, ◌^◌, ◌<◌, ◌≤◌, None, Some, not, filter};
 ghost use Rattle.limiter_num.specs.Rating.{mw, full, rated};
 ghost use Rattle.plant_book.specs.Writes.{frees};
+ghost use Rattle.uncertain_writes.specs.Live.{without};
 ghost use Rattle.plant_ledger.specs.Ledger.{account_at};
 ghost use Rattle.plant_ledger.specs.Account.{first_account, unit_by, most_of, reserved_of, claim_by, AreFrom, HasRoom, after_ask, after_read, after_saw, after_back, after_call};
 
@@ -14,24 +15,24 @@ use uncertain_writes::Live;
 /// through them, and what of it is dear to compute.
 #[derive(Debug, Drop)]
 pub struct Account {
+    /// What it wishes for, in mW.
+    pub wish: u64,
+    floor: u64,
+    rated: u64,
+    reserved: u64,
+    oldest: u64,
     /// The number of its link, or 0 where it had none yet.
     pub link: u32,
     /// How many requests its link has had.
     pub requests: u16,
-    /// Its pending read.
-    pub pending: Option<Read>,
+    full: u16,
+    unit: Unit,
     /// Whether its last read-back was strange.
     pub strange: bool,
-    /// What it wishes for, in mW.
-    pub wish: u64,
-    /// Its live writes.
+    /// Its pending read.
+    pub pending: Option<Read>,
+    /// Its live writes. They stand last, so that the numbers lie close together.
     pub live: Live,
-    unit: Unit,
-    floor: u64,
-    full: u16,
-    rated: u64,
-    reserved: u64,
-    oldest: u64,
 }
 
 impl Model for Account {
@@ -281,4 +282,20 @@ pub fn covering(unit: &Unit, floor: u64, live: &Live) -> u64
     ensures below { result ≤ 65535 * 10 ^ 12 }
 {
     floor.max(live.greatest(&unit.rating))
+}
+
+/// The same of those that a read leaves which showed this raw percentage.
+#[tactic(auto, unfolding(crate::specs::Account::most_of))]
+pub fn covering_left(
+    unit: &Unit,
+    floor: u64,
+    live: &Live,
+    rules: &Rules,
+    read: &Read,
+    raw: u16,
+) -> u64
+    requires { floor ≡ mw unit.now.rating unit.now.floor }
+    ensures { result ≡ most_of unit.now (without (frees rules.now (Some read.now) raw) live.now) }
+{
+    floor.max(live.greatest_left(&unit.rating, rules, read, raw))
 }

@@ -13,11 +13,12 @@ use plant_book::{Call, Entry, MOMENT_MAX, Reply};
 fn go_on(ledger: &mut Ledger, call: &Call)
     requires later { ledger.old.at ≤ moment call.now }
     requires high { moment call.now ≤ MOMENT_MAX }
+    requires of_site { IfSome (named call.now) (λ inverter. inverter < inverters ledger.old.book.site) }
     ensures { ledger.new ≡ record ledger.old { at = moment call.now } }
 {
     ledger.advance(call.at());
-    if matches!(call, Call::Ask { .. }) {
-        ledger.make_levels();
+    if let Call::Ask { inverter, raw, .. } = *call {
+        ledger.make_levels(inverter, raw);
     }
 }
 

@@ -1,5 +1,5 @@
 //! A book, and the account of each inverter.
-ghost use Rattle.std.specs.Prelude.{◌≡◌, ℕ, ◌<◌, ◌≤◌, ◌^◌, ◌||◌, ◌⊎◌, if◌then◌else◌, [], ◌∷◌, ◌++◌, length, map, Some, None, IfOk, IfErr, IfSome, OnOk, OnErr, slice_get, slice_set, slice_index_or};
+ghost use Rattle.std.specs.Prelude.{◌≡◌, ℕ, ◌<◌, ◌≤◌, ◌^◌, nat_le, ◌||◌, ◌⊎◌, if◌then◌else◌, [], ◌∷◌, ◌++◌, length, map, Some, None, IfOk, IfErr, IfSome, OnOk, OnErr, slice_get, slice_set, slice_index_or};
 ghost use Rattle.plant_book.specs.Site.{inverters, floors, full_at};
 ghost use Rattle.plant_book.specs.Caps.{sets_cap, cap_by, cap_of};
 ghost use Rattle.plant_book.specs.Calls.{moment, named};
@@ -16,13 +16,15 @@ ghost use Rattle.plant_ledger.specs.Ledger.{IsUnit, IsAtLast, AreSums, IsLevel, 
 ghost use Rattle.plant_ledger.specs.Plant.{with_one, Rolls, IsFullLife};
 
 use crate::account::Account;
+use crate::queue::{expire_due, queue_grant};
 use crate::rolling::{RollFault, next_book};
-use crate::sums::{Sums, gather};
+use crate::sums::{Known, Sums, gather};
 use limiter_num::{NoMemory, Rules};
 use plant_book::{
     Book, CALLS_MAX, Call, CapMark, Entry, MOMENT_MAX, Policy, Reply, Site, Unit, UnitCarry,
 };
-use share_policy::level;
+use revert_timers::Expiries;
+use share_policy::{level, reaches};
 use std::alloc::Global;
 use std::marker::Model;
 use std::mem;
@@ -34,6 +36,7 @@ pub struct Ledger {
     book: Book,
     moment: u64,
     accounts: Vec<Account>,
+    expiries: Expiries,
     sums: Sums,
     cap: u64,
     stopped: bool,
@@ -46,7 +49,7 @@ impl Model for Ledger {
 
     ghost view = { λ l. record { book = l.book; at = l.moment } };
 
-    ghost invariant = { λ l. Keeps l.book l.moment l.accounts.items l.sums l.cap l.stopped };
+    ghost invariant = { λ l. Keeps l.book l.moment l.accounts.items l.expiries l.sums l.cap l.stopped };
 }
 
 impl Ledger {
@@ -61,12 +64,14 @@ impl Ledger {
     {
         let accounts = first_accounts(alloc, &site.units)?;
         let sums = gather(&accounts);
+        let expiries = Expiries::new(alloc)?;
         let cap = site.cap;
         let book = Book::new(alloc, site, start, None)?;
         Ok(Ledger {
             book,
             moment: start,
             accounts,
+            expiries,
             sums,
             cap,
             stopped: false,
@@ -80,7 +85,23 @@ impl Ledger {
         ensures { self.new ≡ record self.old { at = now } }
     {
         let rules = rules_of(&self.book);
-        if now <= self.sums.oldest.saturating_add(rules.reach()) {
+        let reach = rules.reach();
+        if now <= self.sums.oldest.saturating_add(reach) {
+            self.moment = now;
+            return;
+        }
+        if now <= self.sums.unqueued.saturating_add(reach) {
+            let sums = expire_due(
+                &mut self.accounts,
+                &mut self.expiries,
+                self.sums,
+                &rules,
+                now,
+            );
+            self.sums = Sums {
+                oldest: now.saturating_sub(reach),
+                ..sums
+            };
             self.moment = now;
             return;
         }
@@ -88,6 +109,7 @@ impl Ledger {
         let sums = gather(&self.accounts);
         self.sums.total = sums.total;
         self.sums.oldest = sums.oldest;
+        self.sums.unqueued = sums.oldest;
         self.moment = now;
     }
 
@@ -104,7 +126,11 @@ impl Ledger {
         let rules = rules_of(&self.book);
         let cap = cap_after(self.cap, &entry);
         let sums = follow(&mut self.accounts, self.sums, &rules, &entry);
-        self.sums = sums.under(self.cap, cap).marked(&entry);
+        let unqueued = queue_grant(&mut self.expiries, sums.unqueued, &rules, &entry);
+        self.sums = Sums {
+            unqueued,
+            ..sums.under(self.cap, cap).marked(&entry)
+        };
         self.cap = cap;
         self.stopped = is_stopped_after(self.stopped, &entry.call);
         self.book.push(entry);
@@ -225,8 +251,20 @@ impl Ledger {
         ensures { EachBook self.now.book (λ whole. result ≡ level_of (cap_of whole) (rule.claims whole)) }
     {
         match self.sums.level {
-            Some(level) => level,
-            None => level(self.cap(), self.claims().as_slice()),
+            Known::Is(level) => level,
+            Known::AtLeast(_) => level(self.cap(), self.claims().as_slice()),
+        }
+    }
+
+    /// Whether the level of the fair shares is at least this one, in mW.
+    pub fn reaches(&self, mw: u64) -> bool
+        ensures { EachBook self.now.book
+            (λ whole. result ≡ nat_le mw (level_of (cap_of whole) (rule.claims whole))) }
+    {
+        match self.sums.level {
+            Known::Is(level) => mw <= level,
+            Known::AtLeast(least) if mw <= least => true,
+            Known::AtLeast(_) => reaches(self.cap(), self.claims().as_slice(), mw),
         }
     }
 
@@ -241,15 +279,28 @@ impl Ledger {
         }
     }
 
-    /// Makes the levels that replies need from here on.
-    pub fn make_levels(&mut self)
+    /// Makes what of the levels the reply to an Ask of the inverter for this raw percentage needs.
+    pub fn make_levels(&mut self, inverter: u8, raw: u16)
+        requires { inverter < inverters self.old.book.site }
         ensures { self.new ≡ self.old }
     {
         if self.policy() == Policy::Fair {
-            self.make_level();
+            let mw = self.unit(inverter).rating.mw(raw);
+            self.learn_level(mw);
         }
         if self.total() > self.cap() {
             self.make_fall_level();
+        }
+    }
+
+    /// Finds whether the level of the fair shares is at least this one, in mW, and makes it where it is lower.
+    fn learn_level(&mut self, mw: u64)
+        ensures { self.new ≡ self.old }
+    {
+        if self.reaches(mw) {
+            self.sums.level = self.sums.level.or_at_least(mw);
+        } else {
+            self.make_level();
         }
     }
 
@@ -258,7 +309,7 @@ impl Ledger {
         ensures { self.new ≡ self.old }
     {
         let made = self.level();
-        self.sums.level = Some(made);
+        self.sums.level = Known::Is(made);
     }
 
     /// Makes the level of the fall shares.
@@ -390,6 +441,7 @@ fn follow(accounts: &mut [Account], sums: Sums, rules: &Rules, entry: &Entry) ->
     ensures level { (cap : ℕ) → IsLevel cap accounts.old sums.level → IsLevel cap accounts.new result.level }
     ensures fall { result.fall ≡ sums.fall }
     ensures set { result.set ≡ sums.set }
+    ensures unqueued { result.unqueued ≡ sums.unqueued }
 {
     let Some(inverter) = entry.call.inverter() else {
         return sums;
@@ -404,10 +456,11 @@ fn follow(accounts: &mut [Account], sums: Sums, rules: &Rules, entry: &Entry) ->
         level: if account.claim() == claim {
             sums.level
         } else {
-            None
+            Known::AtLeast(0)
         },
         fall: sums.fall,
         set: sums.set,
+        unqueued: sums.unqueued,
     }
 }
 

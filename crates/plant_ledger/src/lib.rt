@@ -10,6 +10,7 @@ mod entering;
 mod ledger;
 mod opening;
 mod plant;
+mod queue;
 mod replies;
 mod reserved;
 mod rolling;

@@ -7,7 +7,7 @@ ghost use Rattle.plant_book.specs.Part.{last_moment_of, calls_of};
 ghost use Rattle.plant_book.specs.Carry.{EachBook};
 ghost use Rattle.plant_book.specs.Answer as rule;
 
-use crate::account::covering;
+use crate::account::covering_left;
 use crate::ledger::Ledger;
 use plant_book::{CALLS_MAX, Call, REQUESTS_MAX, Read, Reply, Unit, Write};
 use uncertain_writes::Live;
@@ -97,9 +97,8 @@ impl Ledger {
             return Reply::Silent(silent_until);
         }
         let rating = &self.unit(write.inverter).rating;
-        let target = self.target(write.inverter);
-        if rating.mw(write.raw) > target {
-            return Reply::NotAllowed(rating.raw_at_most(target));
+        if !self.allows(write.inverter, rating.mw(write.raw)) {
+            return Reply::NotAllowed(rating.raw_at_most(self.target(write.inverter)));
         }
         self.reply_by_watts(write)
     }
@@ -173,10 +172,10 @@ impl Ledger {
         if !is_known(self.unit(inverter), live, raw) {
             return Reply::Strange(raw);
         }
-        let left = live.left_by(&self.rules(), read, raw);
+        let rules = self.rules();
         Reply::Freed {
-            count: live.len() - left.len(),
-            reserved: covering(account.unit(), account.floor(), &left),
+            count: live.freed(&rules, read, raw),
+            reserved: covering_left(account.unit(), account.floor(), live, &rules, read, raw),
         }
     }
 

@@ -1,9 +1,10 @@
 //! What the policy allows, by the accounts.
-ghost use Rattle.std.specs.Prelude.{◌≡◌, ◌<◌};
+ghost use Rattle.std.specs.Prelude.{◌≡◌, ◌<◌, nat_le};
 ghost use Rattle.plant_book.specs.Site.{inverters};
 ghost use Rattle.plant_book.specs.Caps.{cap_of};
 ghost use Rattle.plant_book.specs.Carry.{IsBookPart, EachBook};
 ghost use Rattle.share_policy.specs.Claims.{IsFeasible};
+ghost use Rattle.share_policy.specs.Shares.{share_at, level_of};
 ghost use Rattle.plant_book.specs.Policy as rule;
 
 use crate::ledger::Ledger;
@@ -46,6 +47,36 @@ impl Ledger {
         }
     }
 
+    /// Whether the fair share of a claim under the cap in force is at least so many mW.
+    fn fair_allows(&self, claim: &Claim, mw: u64) -> bool
+        ensures { EachBook self.now.book
+            (λ whole. result ≡ nat_le mw (share_at (level_of (cap_of whole) (rule.claims whole)) claim.now)) }
+    {
+        if mw <= claim.floor {
+            return true;
+        }
+        if mw > claim.wish {
+            return false;
+        }
+        if mw > claim.rated {
+            return false;
+        }
+        self.reaches(mw)
+    }
+
+    /// Whether the policy allows the inverter so many mW under the cap in force.
+    #[tactic(auto, unfolding(plant_book::specs::Policy::policy_target))]
+    fn policy_allows(&self, inverter: u8, mw: u64) -> bool
+        requires { inverter < inverters self.now.book.site }
+        ensures { EachBook self.now.book (λ whole. result ≡ nat_le mw (rule.policy_target whole inverter)) }
+    {
+        let claim = self.claim(inverter);
+        match self.policy() {
+            Policy::Open => mw <= claim.rated,
+            Policy::Fair => self.fair_allows(&claim, mw),
+        }
+    }
+
     /// What the fall share of the inverter goes by.
     fn fall_claim(&self, inverter: u8) -> Claim
         requires { inverter < inverters self.now.book.site }
@@ -82,6 +113,22 @@ impl Ledger {
             (λ whole. result ≡ rule.fall_share whole.site (cap_of whole) inverter) }
     {
         target(Policy::Fair, self.fall_level(), &self.fall_claim(inverter))
+    }
+
+    /// Whether the inverter may ask for so many mW.
+    #[tactic(auto, unfolding(plant_book::specs::Policy::target_at))]
+    pub fn allows(&self, inverter: u8, mw: u64) -> bool
+        requires { inverter < inverters self.now.book.site }
+        ensures { EachBook self.now.book
+            (λ whole. result ≡ nat_le mw (rule.target_at whole self.now.at inverter)) }
+    {
+        if !self.policy_allows(inverter, mw) {
+            return false;
+        }
+        if self.total() <= self.cap() {
+            return true;
+        }
+        mw <= self.fall_share(inverter)
     }
 
     /// The greatest limit that the inverter may ask for, in mW.

@@ -2,10 +2,31 @@
 ghost use Rattle.std.specs.Prelude.{◌≡◌, ℕ, ◌≤◌, ◌<◌, List, length, None};
 ghost use Rattle.plant_book.specs.Site.{SiteRecord};
 ghost use Rattle.plant_ledger.specs.Account.{Account as Kept};
-ghost use Rattle.plant_ledger.specs.Ledger.{AreSums, IsLevel, IsFallLevel, mark_after};
+ghost use Rattle.plant_ledger.specs.Ledger.{AreSums, IsOf, IsLevel, IsFallLevel, mark_after};
 
 use crate::account::Account;
 use plant_book::{Call, CapMark, Entry, Reply};
+
+/// What is known of a level, in mW.
+#[derive(Clone, Copy, Debug)]
+pub enum Known {
+    /// It is no lower than this.
+    AtLeast(u64),
+    /// It is this.
+    Is(u64),
+}
+
+impl Known {
+    /// The same of a level that is no lower than this either, in mW.
+    pub fn or_at_least(self, mw: u64) -> Known
+        ensures { (level : ℕ) → IsOf self level → mw ≤ level → IsOf result level }
+    {
+        match self {
+            Known::AtLeast(least) => Known::AtLeast(least.max(mw)),
+            Known::Is(level) => Known::Is(level),
+        }
+    }
+}
 
 /// Numbers of all accounts together, so that no call goes through them.
 #[derive(Clone, Copy, Debug)]
@@ -14,8 +35,10 @@ pub struct Sums {
     pub total: u64,
     /// A moment in ms before which no live write was granted.
     pub oldest: u64,
-    /// The level of the fair shares in mW, where it was made since it may have changed.
-    pub level: Option<u64>,
+    /// What is known of the level of the fair shares since it may have changed.
+    pub level: Known,
+    /// A moment in ms before which no live write was granted that isn't in the queue.
+    pub unqueued: u64,
     /// The level of the fall shares in mW, where it was made since the cap changed.
     pub fall: Option<u64>,
     /// The last Cap that was set.
@@ -30,12 +53,13 @@ impl Sums {
             → IsLevel new accounts result.level }
         ensures fall { (site : SiteRecord) → IsFallLevel old site self.fall → IsFallLevel new site result.fall }
         ensures set { result.set ≡ self.set }
+        ensures unqueued { result.unqueued ≡ self.unqueued }
     {
         if old == new {
             return self;
         }
         Sums {
-            level: None,
+            level: Known::AtLeast(0),
             fall: None,
             ..self
         }
@@ -47,6 +71,7 @@ impl Sums {
         ensures level { result.level ≡ self.level }
         ensures fall { result.fall ≡ self.fall }
         ensures set { result.set ≡ mark_after self.set entry.now self.total }
+        ensures unqueued { result.unqueued ≡ self.unqueued }
     {
         match (entry.call, entry.reply) {
             (Call::Cap { at, .. }, Reply::CapSet { .. }) => Sums {
@@ -65,9 +90,10 @@ impl Sums {
 pub fn gather(accounts: &[Account]) -> Sums
     requires { length accounts.now ≤ 64 }
     ensures sums { AreSums accounts.now result }
-    ensures level { result.level ≡ None }
+    ensures level { result.level ≡ Known.AtLeast 0 }
     ensures fall { result.fall ≡ None }
     ensures set { result.set ≡ None }
+    ensures unqueued { result.unqueued ≡ result.oldest }
 {
     let mut total = 0;
     let mut oldest = u64::MAX;
@@ -78,7 +104,8 @@ pub fn gather(accounts: &[Account]) -> Sums
     Sums {
         total,
         oldest,
-        level: None,
+        level: Known::AtLeast(0),
+        unqueued: oldest,
         fall: None,
         set: None,
     }

@@ -1,13 +1,18 @@
-use Rattle.std.proofs.Common.{◌≡◌, ◌+◌, ◌≤◌, ℕ, List, map, take, drop, ◌++◌, length, refl, sym, subst, ap, ◌∙◌, arith}
+use Rattle.std.proofs.Common.{◌≡◌, ◌⊎◌, ◌+◌, ◌≤◌, ℕ, Option, List, map, take, drop, ◌++◌, length, refl, sym, subst, ap, ◌∙◌, arith, inl, inr}
 use Rattle.std.proofs.lemmas.List.{length-map}
-use Rattle.std.specs.Prelude.{IfSome}
 use Rattle.limiter_num.specs.Timers.{reach}
 use Rattle.limiter_num.specs.declared.rules.Rules.{Rules}
 use Rattle.share_policy.specs.declared.claim.Claim.{Claim}
 use Rattle.share_policy.specs.Shares.{level_of}
-use Rattle.plant_ledger.specs.Account.{Account}
-use Rattle.plant_ledger.specs.Ledger.{LedgerRecord, AreSums, Keeps, account_at}
+use Rattle.std.proofs.lemmas.Bool.{cases_lt}
+use Rattle.plant_ledger.specs.Account.{Account, claim_by}
+use Rattle.plant_ledger.specs.Ledger.{LedgerRecord, AreSums, IsOf, IsFallLevel, Keeps, account_at}
+use Rattle.plant_ledger.specs.Queue.{AreQueued}
+use Rattle.plant_ledger.specs.declared.sums.Known.{Known}
+use Rattle.plant_book.specs.declared.carry.CapMark.{CapMark}
+use Rattle.plant_book.specs.Carry.{mark_of, EachBook}
 use Rattle.plant_ledger.proofs.Accounts.{whole, later_of}
+use Rattle.plant_ledger.proofs.Queued.{queued_all, queued_from}
 use Rattle.plant_ledger.proofs.Running.{same_accounts_at, later_claims}
 use Rattle.plant_ledger.proofs.ledger.Ledger.advance.Goals as goal
 
@@ -17,7 +22,7 @@ invariant_of-self c =
     let rules = inside.book.site.rules in
     let kept = c.self.invariant in
     let le : inside.moment ≤ c.args.now = omega (arith, c.requires.later, ap (λ (l : LedgerRecord). l.at) c.self.view_is) in
-    let reaches : c.reach.result ≡ reach rules = c.reach.ensures.moment ∙ ap reach c.rules_of-rules.ensures in
+    let reaches : c.reach-reach.result ≡ reach rules = c.reach-reach.ensures.moment ∙ ap reach c.rules_of-rules.ensures in
     let none : c.args.now ≤ inside.sums.oldest + reach rules = omega (arith, c.if-now-saturating_add.true, c.saturating_add.ensures, reaches) in
     let same = same_accounts_at rules c.args.now inside.sums.oldest inside.accounts.items none kept.sums.oldest in
     record {
@@ -26,6 +31,7 @@ invariant_of-self c =
       level = kept.level;
       fall = kept.fall;
       set = kept.set;
+      queued = kept.queued;
     }
 
 -- all accounts at the later moment, as the code writes them
@@ -40,7 +46,7 @@ pub gather-sums-requires : goal.gather-sums-requires
 gather-sums-requires c =
     let inside = c.self.inside in
     let kept = c.self.invariant.numbers in
-    omega (arith, ap (λ (all : List Account). length all) (made c.self.inside.accounts.items c.expire.new.accounts c.deref.result.now c.deref_mut.result.now c.self.inside.accounts.len c.args.now c.rules_of-rules.result c.self.inside.book.site.rules c.expire.ensures c.rules_of-rules.ensures c.deref_mut.ensures.value c.deref_mut.ensures.len c.deref.ensures.value), length-map inside.accounts.items (account_at inside.book.site.rules c.args.now), kept.count, kept.of_life.behind.book.openable.few)
+    omega (arith, ap (λ (all : List Account). length all) (made c.self.inside.accounts.items c.expire.new.accounts c.deref.result.now c.deref_mut-2.result.now c.self.inside.accounts.len c.args.now c.rules_of-rules.result c.self.inside.book.site.rules c.expire.ensures c.rules_of-rules.ensures c.deref_mut-2.ensures.value c.deref_mut-2.ensures.len c.deref.ensures.value), length-map inside.accounts.items (account_at inside.book.site.rules c.args.now), kept.count, kept.of_life.behind.book.openable.few)
 
 pub invariant_of-self-2 : goal.invariant_of-self-2
 invariant_of-self-2 c =
@@ -51,15 +57,54 @@ invariant_of-self-2 c =
     let sums = c.gather-sums.result in
     let le : inside.moment ≤ now = omega (arith, c.requires.later, ap (λ (l : LedgerRecord). l.at) c.self.view_is) in
     let new = map (account_at rules now) inside.accounts.items in
-    let is = made c.self.inside.accounts.items c.expire.new.accounts c.deref.result.now c.deref_mut.result.now c.self.inside.accounts.len c.args.now c.rules_of-rules.result c.self.inside.book.site.rules c.expire.ensures c.rules_of-rules.ensures c.deref_mut.ensures.value c.deref_mut.ensures.len c.deref.ensures.value in
+    let is = made c.self.inside.accounts.items c.expire.new.accounts c.deref.result.now c.deref_mut-2.result.now c.self.inside.accounts.len c.args.now c.rules_of-rules.result c.self.inside.book.site.rules c.expire.ensures c.rules_of-rules.ensures c.deref_mut-2.ensures.value c.deref_mut-2.ensures.len c.deref.ensures.value in
     let its = subst (λ (all : List Account). AreSums all sums) is c.gather-sums.ensures.sums in
-    let all : Keeps inside.book now new (record { total = sums.total; oldest = sums.oldest; level = inside.sums.level; fall = inside.sums.fall; set = inside.sums.set }) inside.cap inside.stopped =
+    let all : Keeps inside.book now new inside.expiries (record { total = sums.total; oldest = sums.oldest; level = inside.sums.level; unqueued = sums.oldest; fall = inside.sums.fall; set = inside.sums.set }) inside.cap inside.stopped =
     record {
       numbers = later_of inside.book inside.moment now inside.accounts.items new inside.cap inside.stopped le c.requires.high refl kept.numbers;
       sums = record { total = its.total; each = its.each; oldest = its.oldest };
-      level = subst (λ (claims : List Claim). IfSome inside.sums.level (λ (mw : ℕ). mw ≡ level_of inside.cap claims)) (sym (later_claims rules now inside.accounts.items)) kept.level;
+      level = subst (λ (claims : List Claim). IsOf inside.sums.level (level_of inside.cap claims)) (sym (later_claims rules now inside.accounts.items)) kept.level;
       fall = kept.fall;
       set = kept.set;
+      queued = queued_all rules inside.expiries sums.oldest new its.oldest;
     } in
-    subst (λ (list : List Account). Keeps inside.book now list (record { total = sums.total; oldest = sums.oldest; level = inside.sums.level; fall = inside.sums.fall; set = inside.sums.set }) inside.cap inside.stopped)
+    subst (λ (list : List Account). Keeps inside.book now list inside.expiries (record { total = sums.total; oldest = sums.oldest; level = inside.sums.level; unqueued = sums.oldest; fall = inside.sums.fall; set = inside.sums.set }) inside.cap inside.stopped)
     (sym is ∙ c.deref.ensures.value) all
+
+pub invariant_of-self-then-now-saturating_add-2 : goal.invariant_of-self-then-now-saturating_add-2
+invariant_of-self-then-now-saturating_add-2 c =
+    let inside = c.self.inside in
+    let rules = inside.book.site.rules in
+    let kept = c.self.invariant in
+    let now = c.args.now in
+    let old = inside.accounts.items in
+    let fresh = c.expire_due-sums.new.accounts in
+    let queue = c.expire_due-sums.new.expiries in
+    let sums = c.expire_due-sums.result in
+    let its = c.expire_due-sums.ensures in
+    let oldest = c.saturating_sub.result in
+    let same_rules : c.rules_of-rules.result ≡ rules = c.rules_of-rules.ensures in
+    let le : inside.moment ≤ now = omega (arith, c.requires.later, ap (λ (l : LedgerRecord). l.at) c.self.view_is) in
+    let reaches : c.reach-reach.result ≡ reach rules = c.reach-reach.ensures.moment ∙ ap reach same_rules in
+    let count : length fresh ≡ inside.accounts.len = omega (arith, c.expire_due-sums.auto.accounts, c.deref_mut.ensures.len) in
+    let queued : AreQueued rules queue sums.unqueued fresh = subst (λ (r : Rules). AreQueued r queue sums.unqueued fresh) same_rules its.queued in
+    let bound : oldest + reach rules ≤ now ⊎ (oldest ≡ 0) = elim (cases_lt now (reach rules)) [
+      | inl lt ↦ inr (omega (arith, lt, reaches, c.saturating_sub.ensures))
+      | inr le ↦ inl (omega (arith, le, reaches, c.saturating_sub.ensures))
+    ] in
+    let from = queued_from rules now oldest sums.unqueued queue fresh queued its.none_due (omega (arith, c.if-now-saturating_add-2.true, c.saturating_add-2.ensures, reaches, its.unqueued)) bound in
+    let at_once = same_accounts_at rules now oldest fresh (omega (arith, c.saturating_sub.ensures, reaches)) from in
+    let is : fresh ≡ map (account_at rules now) old =
+    sym at_once ∙ subst (λ (r : Rules). map (account_at r now) fresh ≡ map (account_at r now) c.deref_mut.result.now) same_rules its.same ∙ ap (map (account_at rules now)) c.deref_mut.ensures.value in
+    let claims : map claim_by fresh ≡ map claim_by old = ap (map claim_by) is ∙ later_claims rules now old in
+    let level = subst (λ (list : List Claim). IsOf inside.sums.level (level_of inside.cap list)) (sym claims) kept.level in
+    let all : Keeps inside.book now fresh queue (record { total = sums.total; oldest = oldest; level = sums.level; unqueued = sums.unqueued; fall = sums.fall; set = sums.set }) inside.cap inside.stopped =
+    record {
+      numbers = later_of inside.book inside.moment now old fresh inside.cap inside.stopped le c.requires.high is kept.numbers;
+      sums = record { total = its.sums.total; each = its.sums.each; oldest = from };
+      level = subst (λ (known : Known). IsOf known (level_of inside.cap (map claim_by fresh))) (sym its.level) level;
+      fall = subst (λ (made : Option ℕ). IsFallLevel inside.cap inside.book.site made) (sym its.fall) kept.fall;
+      set = subst (λ (mark : Option CapMark). EachBook inside.book (λ whole. mark ≡ mark_of whole)) (sym its.set) kept.set;
+      queued = queued;
+    } in
+    rw (whole fresh old inside.accounts.len count) all

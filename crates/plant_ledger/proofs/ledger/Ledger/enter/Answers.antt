@@ -1,11 +1,18 @@
-use Rattle.std.proofs.Common.{◌≡◌, ℕ, Option, List, length, sym, subst, ap, ◌∙◌, arith}
+use Rattle.std.proofs.Common.{◌≡◌, ℕ, Option, Some, List, length, sym, subst, ap, ◌∙◌, arith}
 use Rattle.plant_book.specs.Part.{book_behind}
 use Rattle.plant_book.specs.declared.book.Entry.{Entry}
 use Rattle.plant_ledger.specs.Account.{Account}
+use Rattle.plant_ledger.specs.declared.sums.Known.{Known}
 use Rattle.plant_ledger.specs.Ledger.{LedgerRecord, AreSums, IsLevel, IsFallLevel, Keeps}
 use Rattle.plant_ledger.specs.Plant.{with_one}
 use Rattle.plant_book.specs.Reserved.{total_at}
 use Rattle.plant_book.specs.Carry.{mark_of, EachBook}
+use Rattle.limiter_num.specs.declared.rules.Rules.{Rules}
+use Rattle.plant_book.specs.declared.call.Write as writes
+use Rattle.plant_book.specs.declared.call.Reply.TheVariants as replies
+use Rattle.plant_book.specs.Calls.{named}
+use Rattle.plant_ledger.specs.Queue.{IsQueued}
+use Rattle.plant_ledger.proofs.Queued.{queued_entered}
 use Rattle.plant_ledger.proofs.Running.{total_is, mark_next}
 use Rattle.plant_ledger.proofs.Accounts.{MayFollow, Follow, whole, may_enter, without_one, next_of, links_left, room_left}
 use Rattle.plant_ledger.proofs.ledger.Ledger.enter.Goals as goal
@@ -53,17 +60,30 @@ invariant_of-self c =
     let numbers = next_of inside.book c.args.entry inside.moment old new inside.cap inside.stopped kept.numbers may count follow c.cap_after-cap.result c.is_stopped_after-self-inside.result c.cap_after-cap.ensures c.is_stopped_after-self-inside.ensures in
     let same : c.under.result.set ≡ inside.sums.set = c.under.ensures.set ∙ c.follow-sums.ensures.set in
     let under = c.under.ensures.sums new c.follow-sums.ensures.sums in
-    let mark : EachBook (with_one inside.book c.args.entry) (λ whole. c.marked-self-inside.result.set ≡ mark_of whole) = λ before is.
+    let mark : EachBook (with_one inside.book c.args.entry) (λ whole. c.marked.result.set ≡ mark_of whole) = λ before is.
     let whole = book_behind before (with_one inside.book c.args.entry) in
     let total = under.total ∙ total_is whole inside.moment new (numbers.each before is).of_inverters ∙ ap (total_at whole) (sym may.at_once) in
-    c.marked-self-inside.ensures.set ∙ mark_next inside.book before c.args.entry c.under.result.total c.under.result.set (same ∙ kept.set before (without_one before inside.book c.args.entry is)) total in
-    let all : Keeps (with_one inside.book c.args.entry) inside.moment new c.marked-self-inside.result c.cap_after-cap.result c.is_stopped_after-self-inside.result =
+    c.marked.ensures.set ∙ mark_next inside.book before c.args.entry c.under.result.total c.under.result.set (same ∙ kept.set before (without_one before inside.book c.args.entry is)) total in
+    let marked = c.marked.ensures.sums new under in
+    let same_rules : c.rules_of-rules.result ≡ inside.book.site.rules = c.rules_of-rules.ensures in
+    let others : (inverter : ℕ) (write : writes.Write) → IsQueued inside.book.site.rules inside.expiries inside.sums.unqueued inverter write
+    → IsQueued inside.book.site.rules c.queue_grant-unqueued.new.expiries c.queue_grant-unqueued.result inverter write = λ inverter write is.
+    subst (λ (r : Rules). IsQueued r c.queue_grant-unqueued.new.expiries c.queue_grant-unqueued.result inverter write) same_rules
+    (c.queue_grant-unqueued.ensures.others inverter write (subst (λ (n : ℕ). IsQueued c.rules_of-rules.result inside.expiries n inverter write) (sym c.follow-sums.ensures.unqueued)
+    (subst (λ (r : Rules). IsQueued r inside.expiries inside.sums.unqueued inverter write) (sym same_rules) is))) in
+    let granted : (inverter : ℕ) (write : writes.Write) → named c.args.entry.call ≡ Some inverter → c.args.entry.reply ≡ replies.Granted write
+    → IsQueued inside.book.site.rules c.queue_grant-unqueued.new.expiries c.queue_grant-unqueued.result inverter write = λ inverter write is its.
+    subst (λ (r : Rules). IsQueued r c.queue_grant-unqueued.new.expiries c.queue_grant-unqueued.result inverter write) same_rules (c.queue_grant-unqueued.ensures.granted inverter write is its) in
+    let all : Keeps (with_one inside.book c.args.entry) inside.moment new c.queue_grant-unqueued.new.expiries (record { total = c.marked.result.total; oldest = c.marked.result.oldest; level = c.marked.result.level; unqueued = c.queue_grant-unqueued.result; fall = c.marked.result.fall; set = c.marked.result.set }) c.cap_after-cap.result c.is_stopped_after-self-inside.result =
     record {
       numbers = numbers;
-      sums = c.marked-self-inside.ensures.sums new under;
-      level = subst (λ (made : Option ℕ). IsLevel c.cap_after-cap.result new made) (sym c.marked-self-inside.ensures.level) (c.under.ensures.level new level);
-      fall = subst (λ (made : Option ℕ). IsFallLevel c.cap_after-cap.result inside.book.site made) (sym c.marked-self-inside.ensures.fall) (c.under.ensures.fall inside.book.site fall);
+      sums = record { total = marked.total; each = marked.each; oldest = marked.oldest };
+      level = subst (λ (made : Known). IsLevel c.cap_after-cap.result new made) (sym c.marked.ensures.level) (c.under.ensures.level new level);
+      fall = subst (λ (made : Option ℕ). IsFallLevel c.cap_after-cap.result inside.book.site made) (sym c.marked.ensures.fall) (c.under.ensures.fall inside.book.site fall);
       set = mark;
+      queued = queued_entered inside.book.site.rules c.args.entry old new inside.expiries c.queue_grant-unqueued.new.expiries inside.sums.unqueued c.queue_grant-unqueued.result count
+          others granted (λ inverter otherwise is. rw (c.deref_mut.ensures.value, c.rules_of-rules.ensures) at (c.follow-sums.ensures.named inverter otherwise is))
+          (λ is. c.follow-sums.ensures.unnamed is ∙ c.deref_mut.ensures.value) kept.queued;
     } in
     rw (c.push.ensures, whole new old inside.accounts.len len) all
 

@@ -19,4 +19,5 @@ invariant_of-self c =
       level = kept.level;
       fall = made life.before life.behind ∙ sym (ap (λ (n : ℕ). level_of n (rule.fall_claims inside.book.site)) its.in_force);
       set = kept.set;
+      queued = kept.queued;
     }

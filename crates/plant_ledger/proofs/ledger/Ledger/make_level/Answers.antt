@@ -21,4 +21,5 @@ invariant_of-self c =
       level = made life.before life.behind ∙ sym (level_is (book_behind life.before inside.book) inside.moment inside.accounts.items inside.cap its.of_inverters its.in_force);
       fall = kept.fall;
       set = kept.set;
+      queued = kept.queued;
     }

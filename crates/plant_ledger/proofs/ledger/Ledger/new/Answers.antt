@@ -1,4 +1,4 @@
-use Rattle.std.proofs.Common.{◌≡◌, List, [], None, sym, subst, ◌∙◌, ap, map, false}
+use Rattle.std.proofs.Common.{◌≡◌, ℕ, List, [], None, sym, subst, ◌∙◌, ap, map, false}
 use Rattle.plant_book.specs.Site.{SiteRecord}
 use Rattle.plant_book.specs.Part.{PartRecord}
 use Rattle.plant_ledger.specs.Account.{Account}
@@ -6,6 +6,8 @@ use Rattle.plant_ledger.specs.Account.{first_account}
 use Rattle.plant_ledger.specs.Ledger.{IsLedgerOf, AreSums}
 use Rattle.plant_book.specs.Carry.{mark_of, EachBook}
 use Rattle.plant_ledger.proofs.Accounts.{first_of, first_mark}
+use Rattle.plant_ledger.specs.Queue.{AreQueued}
+use Rattle.plant_ledger.proofs.Queued.{queued_all}
 use Rattle.plant_ledger.proofs.Running.{no_level, no_fall_level}
 use Rattle.plant_ledger.proofs.ledger.Ledger.new.Goals as goal
 
@@ -20,6 +22,8 @@ invariant_of-result c =
       numbers = rw cap (subst (λ (book : PartRecord). IsLedgerOf book c.args.start c.in_ok-accounts.accounts.items c.args.site.cap false) (sym c.in_ok-book.ensures)
           (subst (λ (all : List Account). IsLedgerOf (record { site = c.args.site; start = c.args.start; carry = None; entries = [] }) c.args.start all c.args.site.cap false) (sym accounts) first));
       sums = subst (λ (all : List Account). AreSums all c.gather-sums.result) its c.gather-sums.ensures.sums;
+      queued = subst (λ (n : ℕ). AreQueued c.in_ok-book.book.site.rules c.in_ok-expiries.expiries n c.in_ok-accounts.accounts.items) (sym c.gather-sums.ensures.unqueued)
+          (queued_all c.in_ok-book.book.site.rules c.in_ok-expiries.expiries c.gather-sums.result.oldest c.in_ok-accounts.accounts.items (subst (λ (all : List Account). AreSums all c.gather-sums.result) its c.gather-sums.ensures.sums).oldest);
       level = no_level _ _ _ c.gather-sums.ensures.level;
       fall = no_fall_level _ _ _ c.gather-sums.ensures.fall;
       set = subst (λ (book : PartRecord). EachBook book (λ whole. c.gather-sums.result.set ≡ mark_of whole)) (sym c.in_ok-book.ensures) (first_mark c.args.site c.args.start c.gather-sums.result.set c.gather-sums.ensures.set);

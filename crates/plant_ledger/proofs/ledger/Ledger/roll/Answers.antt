@@ -3,6 +3,7 @@ use Rattle.plant_book.specs.Site.{SiteRecord}
 use Rattle.plant_book.specs.Part.{PartRecord, last_moment_of}
 use Rattle.plant_book.specs.Carry.{EachBefore}
 use Rattle.plant_ledger.specs.Plant.{Rolls}
+use Rattle.plant_ledger.specs.Queue.{AreQueued}
 use Rattle.plant_ledger.specs.Ledger.{LedgerRecord, IsLedgerOf, IsFallLevel, Keeps, IsAtLast}
 use Rattle.plant_ledger.proofs.Accounts.{rolled_of, rolled_mark}
 use Rattle.plant_ledger.proofs.ledger.Ledger.roll.Goals as goal
@@ -22,11 +23,12 @@ invariant_of-self c =
     let inside = c.self.inside in
     let life = c.self.invariant.numbers.of_life in
     let begins = (next c life.before life.behind).begins in
-    subst (λ (book : PartRecord). Keeps book inside.moment inside.accounts.items inside.sums inside.cap inside.stopped) (sym c.replace.ensures.after) (record {
+    subst (λ (book : PartRecord). Keeps book inside.moment inside.accounts.items inside.expiries inside.sums inside.cap inside.stopped) (sym c.replace.ensures.after) (record {
       numbers = (rolled c).0;
       sums = c.self.invariant.sums;
       level = c.self.invariant.level;
       fall = subst (λ (site : SiteRecord). IsFallLevel inside.cap site inside.sums.fall) (sym (ap (λ (book : PartRecord). book.site) begins)) c.self.invariant.fall;
+      queued = subst (λ (site : SiteRecord). AreQueued site.rules inside.expiries inside.sums.unqueued inside.accounts.items) (sym (ap (λ (book : PartRecord). book.site) begins)) c.self.invariant.queued;
       set = rolled_mark inside.book c.in_ok-next.next inside.sums.set life (next c) c.self.invariant.set;
     })
 

@@ -1,0 +1,109 @@
+//! The queue of grants, by which an expiry looks at no inverter that has nothing due.
+ghost use Rattle.std.specs.Prelude.{◌≡◌, ℕ, ◌≤◌, ◌<◌, length, map, Some, slice_set, slice_index_or};
+ghost use Rattle.std.specs.List.{All};
+ghost use Rattle.plant_book.specs.Calls.{named};
+ghost use Rattle.plant_book.specs.declared.call.Write.{Write as Written};
+ghost use Rattle.plant_ledger.specs.Account.{Account as Kept};
+ghost use Rattle.plant_ledger.specs.Ledger.{AreSums, account_at};
+ghost use Rattle.plant_ledger.specs.Queue.{IsQueued, AreQueued};
+
+use crate::account::Account;
+use crate::sums::Sums;
+use limiter_num::Rules;
+use plant_book::{Entry, MOMENT_MAX, Reply, Write};
+use revert_timers::{Due, Expiries, last_moment};
+
+/// Puts the write that an entry grants into the queue, if it grants one. Answers a moment in ms before which no write
+/// was granted that isn't queued, as the one given was before.
+pub fn queue_grant(expiries: &mut Expiries, unqueued: u64, rules: &Rules, entry: &Entry) -> u64
+    ensures others { (inverter : ℕ) (write : Written) → IsQueued rules.now expiries.old unqueued inverter write
+        → IsQueued rules.now expiries.new result inverter write }
+    ensures granted { (inverter : ℕ) (write : Written) → named entry.now.call ≡ Some inverter
+        → entry.now.reply ≡ Reply.Granted write → IsQueued rules.now expiries.new result inverter write }
+{
+    match (entry.call.inverter(), &entry.reply) {
+        (Some(inverter), Reply::Granted(write)) => {
+            queue_write(expiries, unqueued, rules, inverter, write)
+        }
+        _ => unqueued,
+    }
+}
+
+/// Puts a write of the inverter into the queue, where it may stand there.
+fn queue_write(
+    expiries: &mut Expiries,
+    unqueued: u64,
+    rules: &Rules,
+    inverter: u8,
+    write: &Write,
+) -> u64
+    ensures others { (other : ℕ) (one : Written) → IsQueued rules.now expiries.old unqueued other one
+        → IsQueued rules.now expiries.new result other one }
+    ensures granted { IsQueued rules.now expiries.new result inverter write.now }
+{
+    if write.at > MOMENT_MAX {
+        return unqueued.min(write.at);
+    }
+    let due = Due {
+        last: last_moment(rules, write.at),
+        inverter,
+        link: write.link,
+        number: write.number,
+    };
+    if expiries.try_add(due) {
+        return unqueued;
+    }
+    unqueued.min(write.at)
+}
+
+/// Drops what is past by a moment in ms of the account at a place, if there is one.
+fn expire_at(accounts: &mut [Account], sums: Sums, place: usize, rules: &Rules, now: u64) -> Sums
+    requires few { length accounts.old ≤ 64 }
+    requires sums { AreSums accounts.old sums }
+    ensures sums { AreSums accounts.new result }
+    ensures account { (otherwise : Kept) → place < length accounts.old → accounts.new
+        ≡ slice_set accounts.old place (account_at rules.now now (slice_index_or accounts.old place otherwise)) }
+    ensures none { length accounts.old ≤ place → accounts.new ≡ accounts.old }
+    ensures level { result.level ≡ sums.level }
+    ensures fall { result.fall ≡ sums.fall }
+    ensures set { result.set ≡ sums.set }
+    ensures unqueued { result.unqueued ≡ sums.unqueued }
+{
+    if place >= accounts.len() {
+        return sums;
+    }
+    let account = &mut accounts[place];
+    let reserved = account.reserved();
+    account.expire(rules, now);
+    Sums {
+        total: sums.total - reserved + account.reserved(),
+        ..sums
+    }
+}
+
+/// Drops what is past by a moment in ms of the accounts whose writes stand at the front of the queue.
+pub fn expire_due(
+    accounts: &mut [Account],
+    expiries: &mut Expiries,
+    sums: Sums,
+    rules: &Rules,
+    now: u64,
+) -> Sums
+    requires few { length accounts.old ≤ 64 }
+    requires sums { AreSums accounts.old sums }
+    requires queued { AreQueued rules.now expiries.old sums.unqueued accounts.old }
+    ensures same { map (account_at rules.now now) accounts.new ≡ map (account_at rules.now now) accounts.old }
+    ensures sums { AreSums accounts.new result }
+    ensures queued { AreQueued rules.now expiries.new result.unqueued accounts.new }
+    ensures none_due { All (λ due. now ≤ due.last) expiries.new }
+    ensures level { result.level ≡ sums.level }
+    ensures fall { result.fall ≡ sums.fall }
+    ensures set { result.set ≡ sums.set }
+    ensures unqueued { result.unqueued ≡ sums.unqueued }
+{
+    let mut sums = sums;
+    while let Some(due) = expiries.pop_past(now) {
+        sums = expire_at(accounts, sums, usize::from(due.inverter), rules, now);
+    }
+    sums
+}
