@@ -58,6 +58,13 @@ const WRITE: Write = Write {
     raw: 1_000,
 };
 
+/// A worker that has sent a write and waits for the reply.
+const WRITTEN: State = State {
+    step: Step::WaitWrite(WRITE),
+    last: Some(WRITE),
+    ..LINKED
+};
+
 const READ: Read = Read {
     inverter: 0,
     link: 1,
@@ -181,60 +188,80 @@ fn a_silent_plant_is_read_and_a_quiet_link_hung_up(rt: HostRuntime) -> Result<()
 }
 
 #[test]
-fn a_second_reply_to_a_write_is_passed_over(rt: HostRuntime) -> Result<(), Fail> {
-    let saw = Call::Saw {
-        at: 70_011,
+fn a_raise_is_asked_for_and_then_sent(rt: HostRuntime) -> Result<(), Fail> {
+    let ask = Call::Ask {
+        at: 70_007,
         inverter: 0,
-        number: 3,
         raw: 1_000,
     };
     let steps = [
         (Input::Go, Output::Goal),
         (Input::Goal(GOAL), Output::Now),
-        (
-            Input::Time(70_007),
-            Output::Call(Call::Ask {
-                at: 70_007,
-                inverter: 0,
-                raw: 1_000,
-            }),
-        ),
+        (Input::Time(70_007), Output::Call(ask)),
         (Input::Reply(Reply::Granted(WRITE)), Output::Now),
         (
             Input::Time(70_008),
             Output::Send(Asked::Write(WRITE), 70_008),
         ),
         (Input::SentAll, Output::Receive),
+    ];
+    let waits = State {
+        turns: 0,
+        ..WRITTEN
+    };
+    assert_eq!(rt; played(&job()?, LINKED, &steps), Some(waits));
+    Ok(())
+}
+
+#[test]
+fn a_second_reply_to_a_write_is_passed_over(rt: HostRuntime) -> Result<(), Fail> {
+    let read = Call::Read {
+        at: 70_009,
+        inverter: 0,
+    };
+    let steps = [
         (Input::Frame(wrote(2)), Output::Now),
-        (
-            Input::Time(70_009),
-            Output::Call(Call::Read {
-                at: 70_009,
-                inverter: 0,
-            }),
-        ),
+        (Input::Time(70_009), Output::Call(read)),
         (Input::Reply(Reply::ReadAs(READ)), Output::Now),
         (Input::Time(70_010), Output::Send(Asked::Read(READ), 70_010)),
         (Input::SentAll, Output::Receive),
         (Input::Frame(wrote(2)), Output::Receive),
+    ];
+    let waits = State {
+        step: Step::WaitRead(READ),
+        skipped: 1,
+        ..WRITTEN
+    };
+    assert_eq!(rt; played(&job()?, WRITTEN, &steps), Some(waits));
+    Ok(())
+}
+
+#[test]
+fn what_a_read_back_shows_is_entered(rt: HostRuntime) -> Result<(), Fail> {
+    let saw = Call::Saw {
+        at: 70_011,
+        inverter: 0,
+        number: 3,
+        raw: 1_000,
+    };
+    let freed = Reply::Freed {
+        count: 0,
+        reserved: 6_000_000,
+    };
+    let steps = [
         (Input::Frame(shown(3, 100)), Output::Now),
         (Input::Time(70_011), Output::Call(saw)),
-        (
-            Input::Reply(Reply::Freed {
-                count: 0,
-                reserved: 6_000_000,
-            }),
-            Output::Rest(1_000),
-        ),
+        (Input::Reply(freed), Output::Rest(1_000)),
     ];
+    let waits = State {
+        step: Step::WaitRead(READ),
+        ..WRITTEN
+    };
     let resting = State {
         step: Step::Resting,
-        last: Some(WRITE),
-        turns: 0,
-        skipped: 1,
-        ..LINKED
+        ..waits
     };
-    assert_eq!(rt; played(&job()?, LINKED, &steps), Some(resting));
+    assert_eq!(rt; played(&job()?, waits, &steps), Some(resting));
     Ok(())
 }
 

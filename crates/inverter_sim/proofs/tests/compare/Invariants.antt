@@ -1,5 +1,5 @@
 use Rattle.std.proofs.Common.{◌≡◌}
-use Rattle.inverter_sim.proofs.tests.requests_and_their_replies.Given as goal
+use Rattle.inverter_sim.proofs.tests.compare.Given as goal
 
 -- the moment of the last call
 abbrev pub invariant-loop-now : goal.invariant-loop-now

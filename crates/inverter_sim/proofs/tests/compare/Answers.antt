@@ -1,4 +1,4 @@
-use Rattle.inverter_sim.proofs.tests.requests_and_their_replies.Goals as goal
+use Rattle.inverter_sim.proofs.tests.compare.Goals as goal
 
 pub loop-now-preserved : goal.loop-now-preserved
 loop-now-preserved g c = c.reply.ensures.time
