@@ -1,18 +1,11 @@
--- A frame is taken off the bytes that are held, and handed to a commissioning.
-use Rattle.std.proofs.Common.{◌≡◌, ℕ, ◌+◌, ◌-◌, ◌≤◌, Bool, true, false, cond, List, [], ◌++◌, take, drop, Option, Some, None, Result, Ok, Err, IfErr, OnOk, refl, sym, ap, subst, ◌∙◌, append_assoc, append-nil, arith}
+-- A frame that came is handed to a commissioning.
+use Rattle.std.proofs.Common.{◌≡◌, ℕ, Bool, true, false, cond, List, [], Option, Some, None, Result, Ok, Err, IfErr, OnOk, refl, sym, ap, ◌∙◌}
 use Rattle.std.specs.Prelude.{option_to_list}
 use Rattle.std.specs.Option.{option_map}
-use Rattle.std.specs.List.{slice_range}
 use Rattle.std.specs.Io.KnownBytes.{Appends}
-use Rattle.std.proofs.lemmas.List.{drop-drop, drop-take}
 use Rattle.world_traits.specs.Links.{Links, with_bytes}
 use Rattle.mbap_frames.specs.declared.frame.Frame.{Frame}
-use Rattle.mbap_frames.specs.declared.frames.Got.{Got}
-use Rattle.mbap_frames.specs.declared.frames.Got.TheVariants.{One}
-use Rattle.mbap_frames.specs.declared.frames.Fed.{Fed}
-use Rattle.mbap_frames.specs.Frame.{IsFrame, frame_spelling}
 use Rattle.mbap_frames.specs.Stream.{frames_spelling}
-use Rattle.mbap_frames.specs.Feed.{IsFed, frames_of, Leaves}
 use Rattle.commissioning.specs.declared.commission.Took.TheVariants as took
 use Rattle.commissioning.specs.Stage.{Standing}
 use Rattle.commissioning.specs.Asking.{asked}
@@ -23,23 +16,6 @@ use Rattle.commission_run.specs.declared.stop.Stop.TheVariants.{WriteFailed, Ref
 use Rattle.commission_run.specs.declared.stop.Refusal.{Refusal}
 use Rattle.commission_run.specs.declared.stop.Refusal.TheVariants as by
 use Rattle.commission_run.specs.Arriving.{CutsShort, IsHandled}
-
--- the bytes behind those that were used
-pub part_behind : (buffer : List ℕ) (begin end used : ℕ) → begin + used ≤ end → drop used (slice_range buffer begin end) ≡ slice_range buffer (begin + used) end
-part_behind buffer begin end used le =
-    let rest = end - (begin + used) in
-    ap (λ (n : ℕ). drop used (take n (drop begin buffer))) (omega arith) ∙ drop-take used rest (drop begin buffer) ∙ ap (λ (t : List ℕ). take rest t) (drop-drop used begin buffer)
-
--- the frame stood in front of what is held still
-pub taken_off : (fed : Fed) (frame : Frame) (kept after buffer : List ℕ) (begin end : ℕ) → fed.got ≡ One frame → begin + fed.used ≤ end → IsFed kept (slice_range buffer begin end) fed after
-    → IsFrame frame × (kept ++ slice_range buffer begin end ≡ frame_spelling frame ++ (after ++ slice_range buffer (begin + fed.used) end))
-taken_off fed frame kept after buffer begin end got le is =
-    let leaves : IsFrame frame × (after ≡ []) = subst (λ (g : Got). Leaves g after (drop fed.used (slice_range buffer begin end))) got is.leaves in
-    let one : frames_spelling (frames_of fed.got) ≡ frame_spelling frame = ap (λ (g : Got). frames_spelling (frames_of g)) got ∙ append-nil (frame_spelling frame) in (
-      leaves.0,
-      sym is.stream ∙ append_assoc (frames_spelling (frames_of fed.got)) after (drop fed.used (slice_range buffer begin end)) ∙ ap (λ (t : List ℕ). t ++ (after ++ drop fed.used (slice_range buffer begin end))) one
-          ∙ ap (λ (t : List ℕ). frame_spelling frame ++ (after ++ t)) (part_behind buffer begin end fed.used le),
-    )
 
 request_at : (standing : Standing) (frame : Frame) (skip : Bool) → is_skipped standing frame ≡ skip → answer standing frame ≡ Ok took.Taken
     → request_by standing frame ≡ option_to_list (asked (taken standing frame))

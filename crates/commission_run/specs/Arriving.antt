@@ -1,10 +1,13 @@
 -- What comes over a link, and what is done with a frame that came. No promise to a caller names this.
-use Rattle.std.specs.Prelude.{◌≡◌, ℕ, ◌<◌, List, [], ◌∷◌, ◌++◌, length, Option, Some, None, Result, Ok, Err, IsSome, option_map}
+use Rattle.std.specs.Prelude.{◌≡◌, ℕ, List, [], ◌∷◌, Option, Some, None, Result, Ok, Err, IsSome, option_map}
 use Rattle.std.specs.Io.KnownBytes.{Appends}
-use Rattle.world_traits.specs.Links.{Bytes, Quiet, Closed, Link, Links, IsCutShort, with_bytes, with_receipt, with_failure}
+use Rattle.world_traits.specs.Links.{Link, Links, IsCutShort, with_bytes}
 use Rattle.mbap_frames.specs.declared.frame.Frame.{Frame}
-use Rattle.mbap_frames.specs.Frame.{IsFrame, frame_spelling}
-use Rattle.mbap_frames.specs.Stream.{IsUnfinished, HasFault, frames_spelling}
+use Rattle.mbap_frames.specs.Frame.{frame_spelling}
+use Rattle.mbap_frames.specs.Stream.{frames_spelling}
+use Rattle.frame_inbox.specs.declared.inbox.NoFrame.{NoFrame}
+use Rattle.frame_inbox.specs.declared.inbox.NoFrame.TheVariants as none
+use Rattle.frame_inbox.specs.Waiting.{Arrives}
 use Rattle.commissioning.specs.declared.commission.Took.{Took}
 use Rattle.commissioning.specs.declared.found.Record702.{Record702}
 use Rattle.commissioning.specs.Stage.{Standing, found_at}
@@ -12,6 +15,7 @@ use Rattle.commissioning.specs.Taking.{taken, answer}
 use Rattle.commissioning.specs.Runs.{request_by}
 use Rattle.commission_run.specs.declared.stop.Stop.{Stop}
 use Rattle.commission_run.specs.declared.stop.Stop.TheVariants.{WriteFailed, Refused}
+use Rattle.commission_run.specs.declared.stop.Refusal.{Refusal}
 use Rattle.commission_run.specs.declared.stop.Refusal.TheVariants as by
 use Rattle.commission_run.specs.Lines.{found_text, AppendsFront}
 
@@ -19,29 +23,18 @@ use Rattle.commission_run.specs.Lines.{found_text, AppendsFront}
 abbrev pub with_current : Link → Links → Links
 with_current link links = record links { current = Some link }
 
--- What became of the bytes that were held, and of the record: a frame was taken from their front; a piece came
--- behind what is less than a frame; a fault stands at their front; or the receive for more gave none.
-abbrev pub Arrives : Result (Option Frame) Stop → (held after : List ℕ) → (old new : Option Links) → Type 0
-Arrives (Ok (Some frame)) held after old new =
-    IsFrame frame × (held ≡ frame_spelling frame ++ after) × (new ≡ old)
-Arrives (Ok None) held after old new =
-    IsUnfinished held × (piece : List ℕ) × (0 < length piece) × (after ≡ held ++ piece)
-    × (new ≡ option_map (with_receipt (Bytes piece)) old)
-Arrives (Err (Refused (by.BadFrame fault))) held after old new = HasFault held fault × (new ≡ old)
-Arrives (Err (Refused by.Quiet)) held after old new =
-    IsUnfinished held × (new ≡ option_map (with_receipt Quiet) old)
-Arrives (Err (Refused by.Closed)) held after old new =
-    IsUnfinished held × (new ≡ option_map (with_receipt Closed) old)
-Arrives (Err (Refused by.Recv)) held after old new =
-    IsUnfinished held × (new ≡ option_map with_failure old)
-Arrives (Err _) held after old new = ⊥
+-- how a commissioning says that no frame came
+abbrev pub refusal_of : NoFrame → Refusal
+refusal_of none.Quiet = by.Quiet
+refusal_of none.Closed = by.Closed
+refusal_of none.RecvFailed = by.Recv
+refusal_of (none.BadFrame fault) = by.BadFrame fault
 
--- a receive gave no bytes
-abbrev pub GivesNone : Stop → (old new : Option Links) → Type 0
-GivesNone (Refused by.Quiet) old new = new ≡ option_map (with_receipt Quiet) old
-GivesNone (Refused by.Closed) old new = new ≡ option_map (with_receipt Closed) old
-GivesNone (Refused by.Recv) old new = new ≡ option_map with_failure old
-GivesNone _ old new = ⊥
+-- no frame came, and so the commissioning is stopped
+pub record StopsWait (stop : Stop) (held after : List ℕ) (old new : Option Links) : Type 0 where
+  pub why : NoFrame
+  pub says : stop ≡ Refused (refusal_of why)
+  pub arrives : Arrives (Err why) held after old new
 
 -- a request was cut short by a send that failed
 abbrev pub CutsShort : Stop → Option Frame → (old new : Option Links) → Type 0

@@ -5,7 +5,6 @@
 //! what stands on the link at each end, and `specs/Lines.antt` what is written. It takes no memory.
 #![tactic(auto)]
 
-mod inbox;
 mod job;
 mod laws;
 mod line;

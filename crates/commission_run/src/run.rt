@@ -1,5 +1,5 @@
 //! A commissioning from the dial to the hang-up.
-ghost use Rattle.std.specs.Prelude.{◌≡◌, ◌≢◌, ◌<◌, ◌≤◌, List, ℕ, IsSome, IsOk, IfErr, IfSome, OnErr, OnOk, Some, None, Err, option_to_list};
+ghost use Rattle.std.specs.Prelude.{◌≡◌, ◌≢◌, ◌<◌, ◌≤◌, List, ℕ, IsSome, IsOk, IfErr, IfOk, IfSome, OnErr, OnOk, Some, None, Ok, Err, length, option_to_list};
 ghost use Rattle.std.specs.Option.{option_map};
 ghost use Rattle.std.specs.Io.KnownBytes.{Appends};
 ghost use Rattle.world_traits.specs.Causes.{HasCause, Rose};
@@ -13,14 +13,16 @@ ghost use Rattle.commissioning.specs.Ending.{frames_left};
 ghost use Rattle.commission_run.specs.Lines.{AppendsFront};
 ghost use Rattle.commission_run.specs.Course.{target_of, with_past_link};
 ghost use Rattle.commission_run.specs.Ends.{IsCourse, HasReplies, at_dialer, at_output};
-ghost use Rattle.commission_run.specs.Arriving.{CutsShort, IsHandled, gained_text, with_current};
+ghost use Rattle.commission_run.specs.Arriving as arriving;
+ghost use Rattle.commission_run.specs.Arriving.{CutsShort, IsHandled, StopsWait, gained_text, with_current};
+ghost use Rattle.frame_inbox.specs.Waiting.{Arrives};
 
-use crate::inbox::Inbox;
 use crate::job::Job;
 use crate::line::{Line, commissioned_text, found_text};
 use crate::output::write_whole;
 use crate::stop::{Refusal, Stop};
 use commissioning::{Commission, Record702, Took};
+use frame_inbox::{Inbox, NoFrame};
 use mbap_frames::{Frame, frame_bytes};
 use world_traits::{Dialer, Sink, send_whole};
 
@@ -81,11 +83,38 @@ fn converse<N: Dialer, O: Sink>(job: Job, dialer: &mut N, out: &mut O) -> Result
     let mut inbox = Inbox::new();
     ask(&commission, dialer)?;
     while commission.next().is_some() {
-        if let Some(frame) = inbox.next(dialer)? {
+        if let Some(frame) = advance(&mut inbox, dialer)? {
             take(&mut commission, &frame, dialer, out)?;
         }
     }
     write_line(out, &commissioned_text(inverter))
+}
+
+/// Hands out the next frame. Where none is whole yet it receives one piece, and hands out none.
+fn advance<N: Dialer>(inbox: &mut Inbox, dialer: &mut N) -> Result<Option<Frame>, Stop>
+    ensures arrives { IfOk result (λ frame.
+        Arrives (Ok frame) inbox.old inbox.new (N.links dialer.old) (N.links dialer.new)) }
+    ensures none { IfErr result (λ stop.
+        StopsWait stop inbox.old inbox.new (N.links dialer.old) (N.links dialer.new)) }
+    ensures bound { length inbox.new < 520 }
+    ensures cause { HasCause (N.faults dialer.old) (N.faults dialer.new) (at_dialer result) }
+{
+    match inbox.advance(dialer) {
+        Ok(frame) => Ok(frame),
+        Err(why) => Err(Stop::Refused(refusal_of(why))),
+    }
+}
+
+/// How a commissioning says that no frame came.
+fn refusal_of(why: NoFrame) -> Refusal
+    ensures { result ≡ arriving.refusal_of why }
+{
+    match why {
+        NoFrame::Quiet => Refusal::Quiet,
+        NoFrame::Closed => Refusal::Closed,
+        NoFrame::RecvFailed => Refusal::Recv,
+        NoFrame::BadFrame(fault) => Refusal::BadFrame(fault),
+    }
 }
 
 /// Hands a frame that came to the commissioning: writes the line of the points where they are found by it, and

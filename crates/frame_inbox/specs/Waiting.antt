@@ -54,7 +54,7 @@ GivesNone (none.BadFrame fault) old new = ⊥
 GivesNone why old new = EndsLink why old new
 
 -- What became of the unread bytes and of the record: a frame was taken from their front; a piece came behind what is
--- less than a frame; or no frame comes. No promise to a caller names this.
+-- less than a frame; or no frame comes.
 abbrev pub Arrives : Result (Option Frame) NoFrame → (unread rest : List ℕ) → (old new : Option Links) → Type 0
 Arrives (Ok (Some frame)) unread rest old new =
     IsFrame frame × (unread ≡ frame_spelling frame ++ rest) × (new ≡ old)

@@ -74,11 +74,12 @@ impl Inbox {
         }
     }
 
-    /// Hands out the next frame. Where none is whole yet it receives a piece, and hands out none.
-    fn advance<N: Dialer>(&mut self, dialer: &mut N) -> Result<Option<Frame>, NoFrame>
+    /// Hands out the next frame. Where none is whole yet it receives one piece, and hands out none.
+    pub fn advance<N: Dialer>(&mut self, dialer: &mut N) -> Result<Option<Frame>, NoFrame>
         ensures arrives { Arrives result self.old self.new (N.links dialer.old) (N.links dialer.new) }
         ensures bound { length self.new < 520 }
         ensures faults { Counts result (N.faults dialer.old) (N.faults dialer.new) }
+        ensures later { N.faults dialer.old ≤ N.faults dialer.new }
     {
         let fed = self.frames.feed(part(&self.piece, self.begin, self.end));
         self.begin += fed.used;
@@ -111,6 +112,7 @@ fn receive<N: Dialer>(dialer: &mut N, into: &mut [u8]) -> Result<usize, NoFrame>
         ≡ option_map (with_receipt (Bytes (take count into.new))) (N.links dialer.old)) }
     ensures none { IfErr result (λ why. GivesNone why (N.links dialer.old) (N.links dialer.new)) }
     ensures faults { Counts result (N.faults dialer.old) (N.faults dialer.new) }
+    ensures later { N.faults dialer.old ≤ N.faults dialer.new }
 {
     match dialer.recv(into) {
         Ok(Received::Bytes(count)) => Ok(count),
