@@ -11,7 +11,7 @@ use Rattle.plant_book.specs.Part.{PartRecord, CarryRecord}
 use Rattle.plant_book.specs.Carry.{carry_of}
 use Rattle.plant_ledger.specs.Plant.{with_one}
 use Rattle.ledger_desk.specs.Desk.{GoalsLast, RollsLast, LivesLast}
-use Rattle.ledger_desk.specs.Plain.{PlainRecord, joined, front, first_entries, IsGoalOf, MayTell, begins, ends, WasFull, carry_at, book_between, Ended, WasFullLife}
+use Rattle.ledger_desk.specs.Plain.{PlainRecord, joined, front, first_entries, IsGoalOf, MayTell, begins, ends, WasFull, carry_at, book_between, Ended, WasFullLife, LifeRecord, life_of}
 
 pub get-append : {X : Type 0} (xs ys : List X) (n : ℕ) (x : X) → slice_get xs n ≡ Some x → slice_get (xs ++ ys) n ≡ Some x
 get-append xs ys n x is =
@@ -55,6 +55,9 @@ module _ (old new : PlainRecord) (later : IsLater old new) where
 
   book_same : (place : ℕ) → place ≤ front old → first_entries new place ≡ first_entries old place
   book_same place le = rw (later.site, later.start, first_same place le) refl
+
+  pub life_same : life_of new ≡ life_of old
+  life_same = rw (later.site, later.start, later.begun) refl
 
   pub goals_last : GoalsLast (MayTell old) (MayTell new)
   goals_last made place inverter goal told = record {

@@ -2,7 +2,7 @@
 use Rattle.std.specs.Prelude.{◌≡◌, ℕ, zero, suc, ◌+◌, ◌-◌, ◌<◌, ◌≤◌, List, [], ◌∷◌, ◌++◌, length, take, drop, slice_get, Option, Some, None, MatchOption}
 use Rattle.plant_book.specs.declared.carry.TheConstants.{CALLS_MAX}
 use Rattle.plant_book.specs.declared.book.Entry.{Entry}
-use Rattle.plant_book.specs.Site.{inverters}
+use Rattle.plant_book.specs.Site.{SiteRecord, inverters}
 use Rattle.plant_book.specs.Book.{BookRecord}
 use Rattle.plant_book.specs.Answer.{goal_raw, is_stopped}
 use Rattle.plant_book.specs.Reserved.{reserved}
@@ -97,6 +97,15 @@ pub record Ended (desk : PlainRecord) (number : ℕ) (book : PartRecord) : Type 
 -- the life had so many calls, and with the room they are more than it may have
 abbrev pub WasFullLife : PlainRecord → (calls : ℕ) → Type 0
 WasFullLife desk calls = (calls ≤ front desk) × (CALLS_MAX < calls + desk.book.site.room)
+
+-- which life it is a desk of, and where in it: its site, its start, and how many entries it had
+pub record LifeRecord : Type 0 where
+  pub site : SiteRecord
+  pub start : ℕ
+  pub begun : ℕ
+
+abbrev pub life_of : PlainRecord → LifeRecord
+life_of desk = record { site = desk.book.site; start = desk.book.start; begun = desk.begun }
 
 -- what is kept: the book is right behind the entries before it, which end at the last roll
 pub record IsKeptDesk (desk : PlainRecord) : Type 0 where

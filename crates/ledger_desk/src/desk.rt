@@ -33,6 +33,11 @@ pub trait Desk {
     /// Whether the life had so many calls, and these and the room were more than it may have.
     ghost was_full_life: { Self → (calls : ℕ) → Type 0 };
 
+    /// What of it no call changes: which desk of which life it is.
+    ghost Kept: { Type 0 };
+
+    ghost kept: { Self → Self.Kept };
+
     /// Enters a call and answers it.
     fn call(&mut self, call: Call) -> Result<Outcome, BookFull>
         requires no_back { ¬ IsBack call }
@@ -46,7 +51,8 @@ pub trait Desk {
         ensures goals_last { GoalsLast (may_tell self.old) (may_tell self.new) }
         ensures full_lasts { was_full self.old → was_full self.new }
         ensures rolls_last { RollsLast (ended self.old) (ended self.new) }
-        ensures lives_last { LivesLast (was_full_life self.old) (was_full_life self.new) };
+        ensures lives_last { LivesLast (was_full_life self.old) (was_full_life self.new) }
+        ensures kept { kept self.new ≡ kept self.old };
 
     /// Gives back a write that was not sent and never will be. The ticket is used up, at a full book too.
     fn release(&mut self, ticket: Ticket, at: u64) -> Result<Reply, BookFull>
@@ -58,7 +64,8 @@ pub trait Desk {
         ensures goals_last { GoalsLast (may_tell self.old) (may_tell self.new) }
         ensures full_lasts { was_full self.old → was_full self.new }
         ensures rolls_last { RollsLast (ended self.old) (ended self.new) }
-        ensures lives_last { LivesLast (was_full_life self.old) (was_full_life self.new) };
+        ensures lives_last { LivesLast (was_full_life self.old) (was_full_life self.new) }
+        ensures kept { kept self.new ≡ kept self.old };
 
     /// What the inverter may aim at.
     fn goal(&mut self, inverter: u8) -> Goal
@@ -68,7 +75,8 @@ pub trait Desk {
         ensures goals_last { GoalsLast (may_tell self.old) (may_tell self.new) }
         ensures full_lasts { was_full self.old → was_full self.new }
         ensures rolls_last { RollsLast (ended self.old) (ended self.new) }
-        ensures lives_last { LivesLast (was_full_life self.old) (was_full_life self.new) };
+        ensures lives_last { LivesLast (was_full_life self.old) (was_full_life self.new) }
+        ensures kept { kept self.new ≡ kept self.old };
 
     /// Ends the book, hands it out, and goes on with an empty one. After a refusal the book is as before.
     fn roll(&mut self, alloc: Global) -> Result<Book, RollFault>
@@ -80,5 +88,6 @@ pub trait Desk {
         ensures goals_last { GoalsLast (may_tell self.old) (may_tell self.new) }
         ensures full_lasts { was_full self.old → was_full self.new }
         ensures rolls_last { RollsLast (ended self.old) (ended self.new) }
-        ensures lives_last { LivesLast (was_full_life self.old) (was_full_life self.new) };
+        ensures lives_last { LivesLast (was_full_life self.old) (was_full_life self.new) }
+        ensures kept { kept self.new ≡ kept self.old };
 }

@@ -7,7 +7,7 @@ ghost use Rattle.plant_ledger.specs.Opening.{ticket_for};
 ghost use Rattle.plant_ledger.specs.Release.{back_of};
 ghost use Rattle.ledger_desk.specs.Calls.{IsBack};
 ghost use Rattle.ledger_desk.specs.Desk.{DeskState, EntersNone, Enters, AddsRoll, GoalsLast, RollsLast, LivesLast};
-ghost use Rattle.ledger_desk.specs.Plain.{state_of, MayTell, WasFull, Ended, WasFullLife};
+ghost use Rattle.ledger_desk.specs.Plain.{state_of, MayTell, WasFull, Ended, WasFullLife, LifeRecord, life_of, IsKeptDesk};
 
 use crate::desk::Desk;
 use plant_book::{Book, Call, Entry, Reply};
@@ -61,7 +61,8 @@ impl PlainDesk {
 
     /// The plant, in the last book of its life.
     pub fn into_plant(self) -> Plant
-        ensures { result ≡ self.book }
+        ensures book { result ≡ self.book }
+        ensures whole { IsKeptDesk self }
     {
         self.plant
     }
@@ -77,6 +78,10 @@ impl Desk for PlainDesk {
     ghost ended = { λ d number book. Ended d number book };
 
     ghost was_full_life = { λ d calls. WasFullLife d calls };
+
+    ghost Kept = { LifeRecord };
+
+    ghost kept = { λ d. life_of d };
 
     fn call(&mut self, call: Call) -> Result<Outcome, BookFull> {
         self.plant.apply(call)

@@ -5,9 +5,9 @@ use Rattle.plant_book.specs.Part.{PartRecord}
 use Rattle.plant_ledger.specs.declared.plant.BookFull.{BookFull}
 use Rattle.plant_ledger.specs.declared.plant.Outcome.{Outcome}
 use Rattle.ledger_desk.specs.Desk.{Enters}
-use Rattle.ledger_desk.specs.Plain.{PlainRecord, state_of, WasFull, Ended}
+use Rattle.ledger_desk.specs.Plain.{PlainRecord, state_of, WasFull, life_of, Ended}
 use Rattle.ledger_desk.specs.Desk.{RollsLast}
-use Rattle.ledger_desk.proofs.Later.{IsLater, full_lasts, rolls_last}
+use Rattle.ledger_desk.proofs.Later.{IsLater, full_lasts, rolls_last, life_same}
 use Rattle.ledger_desk.proofs.Calls.{with_book, desk_later, desk_full, desk_enters}
 use Rattle.ledger_desk.specs.contracts.plain_desk.PlainDesk as desk
 use Rattle.ledger_desk.proofs.plain_desk.PlainDeskDesk.call.Goals as goal
@@ -48,3 +48,8 @@ pub returns-clause-rolls_last : goal.returns-clause-rolls_last
 returns-clause-rolls_last c =
     let old : PlainRecord = desk.the_view c.self.inside in
     subst (λ (was : PlainRecord). RollsLast (Ended was) (Ended (with_book old c.apply.new.self))) c.self.view_is (rolls_last old (with_book old c.apply.new.self) (later c))
+
+pub returns-clause-kept : goal.returns-clause-kept
+returns-clause-kept c =
+    let old : PlainRecord = desk.the_view c.self.inside in
+    subst (λ (was : PlainRecord). life_of (with_book old c.apply.new.self) ≡ life_of was) c.self.view_is (life_same old (with_book old c.apply.new.self) (later c))

@@ -7,8 +7,8 @@ use Rattle.plant_book.specs.Part.{PartRecord}
 use Rattle.plant_ledger.specs.declared.plant.BookFull.{BookFull}
 use Rattle.plant_ledger.specs.Release.{back_of}
 use Rattle.ledger_desk.specs.Desk.{Enters, GoalsLast, RollsLast}
-use Rattle.ledger_desk.specs.Plain.{PlainRecord, state_of, WasFull, Ended, MayTell}
-use Rattle.ledger_desk.proofs.Later.{IsLater, goals_last, full_lasts, rolls_last}
+use Rattle.ledger_desk.specs.Plain.{PlainRecord, state_of, WasFull, life_of, Ended, MayTell}
+use Rattle.ledger_desk.proofs.Later.{IsLater, goals_last, full_lasts, rolls_last, life_same}
 use Rattle.ledger_desk.proofs.Calls.{with_book, desk_later, desk_full, desk_enters}
 use Rattle.ledger_desk.specs.contracts.plain_desk.PlainDesk as desk
 use Rattle.ledger_desk.proofs.plain_desk.PlainDeskDesk.release.Goals as goal
@@ -85,3 +85,7 @@ returns-clause-full_lasts c = subst (λ (was : PlainRecord). WasFull was → Was
 pub returns-clause-rolls_last : goal.returns-clause-rolls_last
 returns-clause-rolls_last c =
     subst (λ (was : PlainRecord). RollsLast (Ended was) (Ended (new c))) c.self.view_is (rolls_last (old c) (new c) (later c))
+
+pub returns-clause-kept : goal.returns-clause-kept
+returns-clause-kept c =
+    subst (λ (was : PlainRecord). life_of (new c) ≡ life_of was) c.self.view_is (life_same (old c) (new c) (later c))

@@ -6,8 +6,8 @@ use Rattle.plant_book.specs.Part.{PartRecord}
 use Rattle.plant_book.specs.Carry.{IsBehind, EachBefore}
 use Rattle.plant_ledger.specs.Plant.{Rolls}
 use Rattle.ledger_desk.specs.Desk.{RollsLast}
-use Rattle.ledger_desk.specs.Plain.{PlainRecord, joined, front, WasFull, Ended, IsKeptDesk}
-use Rattle.ledger_desk.proofs.Later.{full_lasts, rolls_last, rolled_from}
+use Rattle.ledger_desk.specs.Plain.{PlainRecord, joined, front, WasFull, life_of, Ended, IsKeptDesk}
+use Rattle.ledger_desk.proofs.Later.{full_lasts, rolls_last, rolled_from, life_same}
 use Rattle.ledger_desk.proofs.Rolled.{carry, rolled_later, kept_next, ended_by}
 use Rattle.ledger_desk.specs.contracts.plain_desk.PlainDesk as desk
 use Rattle.ledger_desk.proofs.plain_desk.PlainDeskDesk.roll.Goals as goal
@@ -72,3 +72,7 @@ returns-clause-full_lasts c =
 pub returns-clause-rolls_last : goal.returns-clause-rolls_last
 returns-clause-rolls_last c =
     subst (λ (was : PlainRecord). RollsLast (Ended was) (Ended (new c))) c.self.view_is (rolls_last (old c) (new c) (rolled_later (old c) c.self.invariant (new c) (is c)))
+
+pub returns-clause-kept : goal.returns-clause-kept
+returns-clause-kept c =
+    subst (λ (was : PlainRecord). life_of (new c) ≡ life_of was) c.self.view_is (life_same (old c) (new c) (rolled_later (old c) c.self.invariant (new c) (is c)))
