@@ -48,6 +48,8 @@ gains job (output.Send request clock) input.SendFailed old new done = gains_none
 gains job output.Receive came old new done = gains_none old new (same_desk _ new done.0)
 gains job output.HangUp input.HungUp old new done = gains_none old new (same_desk _ new done)
 gains job (output.Rest ms) input.Rested old new done = gains_none old new (same_desk old new done)
+gains job output.Nothing input.Go old new done = gains_none old new (same_desk old new done)
+gains job output.Nothing input.NoRoom old new done = gains_none old new (same_desk old new done)
 gains job output came old new done = absurd done
 
 entries_joined : (made entries others later : List Entry) → AreEntriesOf made entries → AreEntriesOf others later
@@ -105,6 +107,8 @@ counted_one job output.Receive came old new done =
     subst P (sym done.1.is) (arrived done.1.result old.faults new.faults done.1.counts)
 counted_one job output.HangUp input.HungUp old new done = counts_none old.faults new.faults (same_faults _ new done)
 counted_one job (output.Rest ms) input.Rested old new done = counts_none old.faults new.faults (same_faults old new done)
+counted_one job output.Nothing input.Go old new done = counts_none old.faults new.faults (same_faults old new done)
+counted_one job output.Nothing input.NoRoom old new done = counts_none old.faults new.faults (same_faults old new done)
 counted_one job output came old new done = absurd done
 
 counts_more : (m n a b c : ℕ) → IsCounted m a b → IsCounted n b c → IsCounted (m + n) a c

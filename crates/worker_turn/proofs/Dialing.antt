@@ -88,6 +88,8 @@ ends_one job output.Receive came old new done =
     (ends_come job done.1.result _ _ waits.between new.links waits.comes))
 ends_one job output.HangUp input.HungUp old new done = no_more after_hang_up old.links new.links (λ links. refl) (same_links _ new done)
 ends_one job (output.Rest ms) input.Rested old new done = ends_same old.links new.links (same_links old new done)
+ends_one job output.Nothing input.Go old new done = ends_same old.links new.links (same_links old new done)
+ends_one job output.Nothing input.NoRoom old new done = ends_same old.links new.links (same_links old new done)
 ends_one job output came old new done = absurd done
 
 pub ends_all : (job : Job) (first : Output) (later : List RunStep) (old new : World) → AreDone job first later old new → Ends (dialed job later) old.links new.links

@@ -1,5 +1,5 @@
 -- One output more is done.
-use Rattle.std.proofs.Common.{◌≡◌, ◌≢◌, ℕ, ◌+◌, ◌≤◌, List, [], ◌∷◌, ◌++◌, length, Option, Some, None, Result, Ok, Err, refl, sym, ap, subst, ◌∙◌, arith, append-nil, append_assoc}
+use Rattle.std.proofs.Common.{◌≡◌, ◌≢◌, ℕ, ◌+◌, ◌≤◌, false, List, [], ◌∷◌, ◌++◌, length, Option, Some, None, Result, Ok, Err, refl, sym, ap, subst, ◌∙◌, arith, append-nil, append_assoc}
 use Rattle.std.specs.List.{AllByRecursion}
 use Rattle.std.proofs.lemmas.List.Concat.{flat_map-append}
 use Rattle.plant_book.specs.declared.call.Call.{Call}
@@ -28,7 +28,7 @@ use Rattle.inverter_worker.specs.Turns.{IsWithinTurn, reading_in, readings}
 use Rattle.inverter_worker.proofs.Runs.{LeadsTo-push}
 use Rattle.worker_turn.specs.Doing.{World, IsDone, AreDone, IsCome, arrival, request_frame}
 use Rattle.worker_turn.specs.Desks.{IsTold, IsToldNow}
-use Rattle.worker_turn.specs.Acts.{Stands}
+use Rattle.worker_turn.specs.Acts.{is_last, Stands}
 use Rattle.worker_turn.specs.Turning.{pending, Follows, IsFresh}
 use Rattle.worker_turn.proofs.Rows.{IsNotGoal, IsNotNoMemory, Led, led, not_ready}
 
@@ -125,6 +125,8 @@ moves job output.Receive came old new done =
     (unread came old new (ap reading_in done.1.is ∙ no_reading done.1.result) (readings_of _ new done.0))
 moves job output.HangUp input.HungUp old new done = still output.HangUp input.HungUp old new tt (desk_of _ new done) (unread input.HungUp old new refl (readings_of _ new done))
 moves job (output.Rest ms) input.Rested old new done = still (output.Rest ms) input.Rested old new tt (desk_of old new done) (unread input.Rested old new refl (readings_of old new done))
+moves job output.Nothing input.Go old new done = still output.Nothing input.Go old new tt (desk_of old new done) (unread input.Go old new refl (readings_of old new done))
+moves job output.Nothing input.NoRoom old new done = still output.Nothing input.NoRoom old new tt (desk_of old new done) (unread input.NoRoom old new refl (readings_of old new done))
 moves job output came old new done = absurd done
 
 pub answers : (job : Job) (output : Output) (came : Input) (old new : World) → IsDone job output came old new → IsAnswerTo output came
@@ -166,7 +168,7 @@ told_still may_tell may_tell_now was_full was_full_now inverter old mid new (inp
 told_still may_tell may_tell_now was_full was_full_now inverter old mid new input.Full goals full front told = full told
 told_still may_tell may_tell_now was_full was_full_now inverter old mid new _ goals full front told = tt
 
-not_arrived : (goal : Goal) (result : Result Frame NoFrame) → input.Goal goal ≡ arrival result → ⊥
+pub not_arrived : (goal : Goal) (result : Result Frame NoFrame) → input.Goal goal ≡ arrival result → ⊥
 not_arrived goal (Ok frame) is = cc
 not_arrived goal (Err none.Quiet) is = cc
 not_arrived goal (Err none.Closed) is = cc
@@ -217,17 +219,17 @@ at_first may_tell was_full job begun first logged old stands from came is = reco
 pub one_more : (may_tell may_tell_now : GoalTest) (was_full was_full_now : Type 0) (job : Job) (begun : State) (first : Output) (later : List RunStep)
     (state next : State) (last following : Output) (came : Input) (logged log_mid log_now : List Sent) (old mid new : World)
     → Follows may_tell was_full job begun first later state last logged log_mid old mid
-    → IsDone job last came mid new → table job state came ≡ Some (next, following)
+    → is_last last ≡ false → IsDone job last came mid new → table job state came ≡ Some (next, following)
     → GoalsLast may_tell may_tell_now → (was_full → was_full_now) → IsToldNow may_tell_now was_full_now job.inverter new.desk came
     → log_now ≡ log_mid ++ sends_of following
     → Follows may_tell_now was_full_now job begun first (later ++ record { state = state; input = came; output = following } ∷ []) next following logged log_now old new
-one_more may_tell may_tell_now was_full was_full_now job begun first later state next last following came logged log_mid log_now old mid new follows done is goals full told noted =
+one_more may_tell may_tell_now was_full was_full_now job begun first later state next last following came logged log_mid log_now old mid new follows going done is goals full told noted =
     let one : RunStep = record { state = state; input = came; output = following } in
     let does = moves job last came mid new done in
-    let goes : Led job last came state.step next following = led job state next last following came mid new follows.stands done is in
+    let goes : Led job last came state.step next following = led job state next last following came mid new going follows.stands done is in
     let P : Output → Type 0 = λ output. IsDone job output came mid new in
     record {
-      within = all_push IsWithinTurn later one follows.within (not_ready job state.step last came mid new follows.stands done);
+      within = all_push IsWithinTurn later one follows.within (not_ready job state.step last going follows.stands);
       leads = LeadsTo-push job begun state next later came following follows.leads is;
       pending = pending-push first later one;
       done = done-push job first later one old mid new follows.done (subst P follows.pending done);

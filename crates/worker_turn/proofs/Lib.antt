@@ -6,3 +6,4 @@ pub mod Turn
 pub mod Agreeing
 pub mod Reading
 pub mod Dialing
+pub mod Fewer

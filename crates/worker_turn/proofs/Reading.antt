@@ -147,6 +147,8 @@ read_one job output.HangUp input.HungUp old new frames done read = λ links link
     let P : Links → Type 0 = λ l. l.current ≡ Some link in
     let at : None ≡ Some link = subst P (sym before.2) up in absurd cc
 read_one job (output.Rest ms) input.Rested old new frames done read = stays frames old.unread new.unread old.links new.links (same_links old new done) (same_unread old new done) read
+read_one job output.Nothing input.Go old new frames done read = stays frames old.unread new.unread old.links new.links (same_links old new done) (same_unread old new done) read
+read_one job output.Nothing input.NoRoom old new frames done read = stays frames old.unread new.unread old.links new.links (same_links old new done) (same_unread old new done) read
 read_one job output came old new frames done read = absurd done
 
 pub read_all : (job : Job) (first : Output) (later : List RunStep) (old new : World) (frames : List Frame) → AreDone job first later old new → IsRead frames old.unread old.links
@@ -253,6 +255,8 @@ sent_one job output.Receive came old new before done were =
 sent_one job output.HangUp input.HungUp old new before done were =
     (before, refl, sends_through after_hang_up [] [] before before old.links new.links (adds_hang_up [] []) (same_links _ new done) (sym (append-nil before)) were)
 sent_one job (output.Rest ms) input.Rested old new before done were = (before, refl, sends_none before old.links new.links (same_links old new done) were)
+sent_one job output.Nothing input.Go old new before done were = (before, refl, sends_none before old.links new.links (same_links old new done) were)
+sent_one job output.Nothing input.NoRoom old new before done were = (before, refl, sends_none before old.links new.links (same_links old new done) were)
 sent_one job output came old new before done were = absurd done
 
 pub sent_all : (job : Job) (first : Output) (later : List RunStep) (old new : World) (before : List ℕ) → AreDone job first later old new → IsSent before old.links

@@ -180,46 +180,45 @@ module _ (job : Job) (state : State) (old new : World) where
   at_resting ms _ done = absurd done
 
   -- at each step with its output
-  pub leads : (step : Step) (output : Output) → Stands job step output → (came : Input) → IsDone job output came old new
+  pub leads : (step : Step) (output : Output) → is_last output ≡ false → Stands job step output → (came : Input) → IsDone job output came old new
       → Leads job output came step (row job state step came)
-  leads Ready output.Nothing stands came done = absurd done
-  leads (Over end) output.End stands came done = absurd done
-  leads Aiming output.Goal stands came done = at_aiming came done
-  leads (Dialing raw) output.Dial stands came done = at_dialing raw came done
-  leads (LinkTiming raw) output.Now stands came done = at_link_timing raw came done
-  leads (Linking raw) (output.Call (call.Link at inverter)) stands came done = at_linking raw at inverter came done
-  leads (Timing raw) output.Now stands came done = at_timing raw came done
-  leads Asking (output.Call (call.Ask at inverter raw)) stands came done = at_asking at inverter raw stands.1 came done
-  leads (Window write) output.Now stands came done = at_window write stands came done
-  leads (ReleaseTiming write) (output.Release back at) stands came done = at_release write back at came done
-  leads (Sending write) (output.Send (asked.Write sent) clock) stands came done = at_sending write sent clock came done
-  leads (WaitWrite write) output.Receive stands came done = at_wait_write write came
-  leads ReadTiming output.Now stands came done = at_read_timing came done
-  leads ReadAsking (output.Call (call.Read at inverter)) stands came done = at_read_asking at inverter came done
-  leads (ReadWindow read) output.Now stands came done = at_read_window read came done
-  leads (SendingRead read) (output.Send (asked.Read sent) clock) stands came done = at_sending_read read sent clock came done
-  leads (WaitRead read) output.Receive stands came done = at_wait_read read came
-  leads (SawTiming read raw) output.Now stands came done = at_saw_timing read raw came done
-  leads SawAsking (output.Call (call.Saw at inverter number raw)) stands came done = at_saw_asking at inverter number raw came done
-  leads Closing output.HangUp stands came done = at_closing came done
-  leads (UnfitClosing point wanted found) output.HangUp stands came done = at_unfit_closing point wanted found came done
-  leads Resting (output.Rest ms) stands came done = at_resting ms came done
-  leads step output stands came done = absurd stands
+  leads Ready output.Nothing going stands came done = absurd cc
+  leads (Over end) output.End going stands came done = absurd done
+  leads Aiming output.Goal going stands came done = at_aiming came done
+  leads (Dialing raw) output.Dial going stands came done = at_dialing raw came done
+  leads (LinkTiming raw) output.Now going stands came done = at_link_timing raw came done
+  leads (Linking raw) (output.Call (call.Link at inverter)) going stands came done = at_linking raw at inverter came done
+  leads (Timing raw) output.Now going stands came done = at_timing raw came done
+  leads Asking (output.Call (call.Ask at inverter raw)) going stands came done = at_asking at inverter raw stands.1 came done
+  leads (Window write) output.Now going stands came done = at_window write stands came done
+  leads (ReleaseTiming write) (output.Release back at) going stands came done = at_release write back at came done
+  leads (Sending write) (output.Send (asked.Write sent) clock) going stands came done = at_sending write sent clock came done
+  leads (WaitWrite write) output.Receive going stands came done = at_wait_write write came
+  leads ReadTiming output.Now going stands came done = at_read_timing came done
+  leads ReadAsking (output.Call (call.Read at inverter)) going stands came done = at_read_asking at inverter came done
+  leads (ReadWindow read) output.Now going stands came done = at_read_window read came done
+  leads (SendingRead read) (output.Send (asked.Read sent) clock) going stands came done = at_sending_read read sent clock came done
+  leads (WaitRead read) output.Receive going stands came done = at_wait_read read came
+  leads (SawTiming read raw) output.Now going stands came done = at_saw_timing read raw came done
+  leads SawAsking (output.Call (call.Saw at inverter number raw)) going stands came done = at_saw_asking at inverter number raw came done
+  leads Closing output.HangUp going stands came done = at_closing came done
+  leads (UnfitClosing point wanted found) output.HangUp going stands came done = at_unfit_closing point wanted found came done
+  leads Resting (output.Rest ms) going stands came done = at_resting ms came done
+  leads step output going stands came done = absurd stands
 
-pub led : (job : Job) (state next : State) (output following : Output) (came : Input) (old new : World) → Stands job state.step output
+pub led : (job : Job) (state next : State) (output following : Output) (came : Input) (old new : World) → is_last output ≡ false → Stands job state.step output
     → IsDone job output came old new → table job state came ≡ Some (next, following) → Led job output came state.step next following
-led job state next output following came old new stands done is =
+led job state next output following came old new going stands done is =
     let P : Option (State × Output) → Type 0 = λ row. Leads job output came state.step row in
-    subst P is (leads job state old new state.step output stands came done)
+    subst P is (leads job state old new state.step output going stands came done)
 
-ready_none : (job : Job) (output : Output) (came : Input) (old new : World) → Stands job Ready output → IsDone job output came old new → ⊥
-ready_none job output.Nothing came old new stands done = done
-ready_none job _ came old new stands done = stands
+ready_last : (job : Job) (output : Output) → is_last output ≡ false → Stands job Ready output → ⊥
+ready_last job output.Nothing going stands = cc
+ready_last job _ going stands = stands
 
-pub not_ready : (job : Job) (step : Step) (output : Output) (came : Input) (old new : World) → Stands job step output
-    → IsDone job output came old new → step ≢ Ready
-not_ready job step output came old new stands done is =
-    let P : Step → Type 0 = λ step. Stands job step output in ready_none job output came old new (subst P is stands) done
+pub not_ready : (job : Job) (step : Step) (output : Output) → is_last output ≡ false → Stands job step output → step ≢ Ready
+not_ready job step output going stands is =
+    let P : Step → Type 0 = λ step. Stands job step output in ready_last job output going (subst P is stands)
 
 -- it can be done, or the turn is over
 pub doable : (job : Job) (step : Step) (output : Output) (ticket : Option writes.Write) → Stands job step output → is_last output ≡ false

@@ -18,7 +18,9 @@ use Rattle.inverter_worker.specs.Runs.{RunStep, LeadsTo, log, sends_of}
 use Rattle.inverter_worker.specs.Turns.{reading_in, readings, IsShort}
 use Rattle.inverter_worker.proofs.Turns.{short}
 use Rattle.worker_turn.specs.Doing.{World, AreDone}
-use Rattle.worker_turn.specs.Worker.{WorkerRecord, IsBegin, IsBetweenTurns, IsTurn}
+use Rattle.worker_turn.specs.declared.worker.Turned.{Turned}
+use Rattle.worker_turn.specs.declared.worker.Turned.TheVariants as turned
+use Rattle.worker_turn.specs.Worker.{WorkerRecord, Answers, IsBegin, IsBetweenTurns, IsTurn}
 use Rattle.worker_turn.specs.Acts.{Begins}
 use Rattle.worker_turn.specs.Turning.{GoesOn}
 
@@ -77,3 +79,8 @@ pub between : (step : Step) → IsBetweenTurns step → ((end : End) → step �
 between Ready is not = refl
 between (Over end) is not = absurd (not end refl)
 between _ is not = absurd is
+
+-- a turn after which there is another leaves the worker ready
+pub again_ready : (answer : Turned) (step : Step) → Answers answer step → answer ≡ turned.Again → step ≡ Ready
+again_ready turned.Again step answers is = answers
+again_ready (turned.Over end) step answers is = absurd cc

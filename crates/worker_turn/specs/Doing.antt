@@ -59,7 +59,7 @@ pub record IsCome (came : Input) (old new : World) : Type 0 where
   pub waits : Waits result old.unread new.unread old.links new.links
   pub counts : Counts result old.faults new.faults
 
--- An output was done, and this input came of it.
+-- An output was done, and this input came of it. Behind a turn the next one begins.
 abbrev pub IsDone : Job → Output → Input → World → World → Type 0
 IsDone job output.Goal (input.Goal goal) old new = DeskAlone EntersNone old new
 IsDone job output.Dial input.Dialed old new =
@@ -83,6 +83,8 @@ IsDone job output.Receive came old new =
 IsDone job output.HangUp input.HungUp old new =
     new ≡ record old { links = option_map after_hang_up old.links; unread = [] }
 IsDone job (output.Rest ms) input.Rested old new = new ≡ old
+IsDone job output.Nothing input.Go old new = new ≡ old
+IsDone job output.Nothing input.NoRoom old new = new ≡ old
 IsDone job output came old new = ⊥
 
 -- An output was done, and then those of these steps, each with the input of the next step. What the last one puts out

@@ -27,6 +27,7 @@ pub(crate) fn ask_goal<D: Desk>(job: &Job, desk: &mut D) -> Input
     ensures told { IsToldNow (D.may_tell desk.new) (D.was_full desk.new) job.now.inverter (D.state desk.new) result }
     ensures last { TestsLast (D.may_tell desk.old) (D.may_tell desk.new) (D.was_full desk.old) (D.was_full desk.new)
         (D.ended desk.old) (D.ended desk.new) (D.was_full_life desk.old) (D.was_full_life desk.new) }
+    ensures kept { D.kept desk.new ≡ D.kept desk.old }
 {
     Input::Goal(desk.goal(job.inverter))
 }
@@ -46,6 +47,7 @@ pub(crate) fn make_call<D: Desk>(
         result.input }
     ensures last { TestsLast (D.may_tell desk.old) (D.may_tell desk.new) (D.was_full desk.old) (D.was_full desk.new)
         (D.ended desk.old) (D.ended desk.new) (D.was_full_life desk.old) (D.was_full_life desk.new) }
+    ensures kept { D.kept desk.new ≡ D.kept desk.old }
     ensures ticket { result.ticket ≡ ticket_after (Output.Call call) result.input ticket }
 {
     match desk.call(call) {
@@ -70,6 +72,7 @@ pub(crate) fn give_back<D: Desk>(job: &Job, ticket: Ticket, at: u64, desk: &mut 
     ensures told { IsToldNow (D.may_tell desk.new) (D.was_full desk.new) job.now.inverter (D.state desk.new) result }
     ensures last { TestsLast (D.may_tell desk.old) (D.may_tell desk.new) (D.was_full desk.old) (D.was_full desk.new)
         (D.ended desk.old) (D.ended desk.new) (D.was_full_life desk.old) (D.was_full_life desk.new) }
+    ensures kept { D.kept desk.new ≡ D.kept desk.old }
 {
     match desk.release(ticket, at) {
         Ok(reply) => Input::Reply(reply),

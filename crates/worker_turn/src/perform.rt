@@ -34,6 +34,7 @@ pub(crate) fn perform<D: Desk, N: Dialer, K: Clock>(
         result.input }
     ensures last { TestsLast (D.may_tell desk.old) (D.may_tell desk.new) (D.was_full desk.old) (D.was_full desk.new)
         (D.ended desk.old) (D.ended desk.new) (D.was_full_life desk.old) (D.was_full_life desk.new) }
+    ensures kept { D.kept desk.new ≡ D.kept desk.old }
     ensures ticket { result.ticket ≡ ticket_after output result.input ticket }
     ensures clock { watch.new.clock ≡ watch.old.clock }
 {

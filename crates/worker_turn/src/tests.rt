@@ -102,7 +102,7 @@ fn one_turn(
     worker.turn(desk, dialer, &mut Watch::new(clock))
 }
 
-/// A request as the log keeps it.
+/// A request for a read-back as the log keeps it.
 fn read_at(number: u16, at: u64, clock: u64) -> Sent {
     let read = Read {
         inverter: 0,
@@ -116,53 +116,74 @@ fn read_at(number: u16, at: u64, clock: u64) -> Sent {
     }
 }
 
+/// A request for a limit of 1000 as the log keeps it.
+fn write_at(number: u16, at: u64, clock: u64) -> Sent {
+    let write = Write {
+        inverter: 0,
+        link: 1,
+        number,
+        at,
+        raw: 1_000,
+    };
+    Sent {
+        request: Asked::Write(write),
+        clock,
+    }
+}
+
+/// The worker after a turn over this dialer.
+fn after_one_turn(alloc: Global, dialer: &mut PlayDialer) -> Result<Worker, Fail> {
+    let mut worker = worker(alloc, 1, 1_000)?;
+    let mut desk = desk(alloc)?;
+    one_turn(&mut worker, &mut desk, dialer, &StepClock::new(1, 1));
+    Ok(worker)
+}
+
+/// The worker after two turns over this dialer, which end past the silence.
+fn after_two_turns(alloc: Global, dialer: &mut PlayDialer) -> Result<Worker, Fail> {
+    let mut worker = worker(alloc, 2, 70_000)?;
+    let mut desk = desk(alloc)?;
+    let clock = StepClock::new(1, 1);
+    one_turn(&mut worker, &mut desk, dialer, &clock);
+    one_turn(&mut worker, &mut desk, dialer, &clock);
+    Ok(worker)
+}
+
+/// The moves of a link whose peer answers each request, and the write twice.
+fn twice_answered(alloc: Global) -> Result<Vec<Move>, AllocError> {
+    let first = shown(alloc, 1, [0, 100])?;
+    let last = shown(alloc, 3, [3, 0xE8])?;
+    Ok(vec![in alloc; first, wrote_twice(alloc)?, last]?)
+}
+
+/// Whether the bytes sent on the first link of a dialer are these.
+fn has_sent(dialer: &PlayDialer, bytes: &[u8]) -> bool {
+    match dialer.log().link(0) {
+        Some(link) => link.sent() == bytes,
+        None => false,
+    }
+}
+
 #[test]
 fn a_silent_plant_is_read(rt: HostRuntime) -> Result<(), Fail> {
-    let alloc = rt.alloc();
-    let mut worker = worker(alloc, 1, 1_000)?;
+    let mut dialer = dialer(rt.alloc(), Vec::new(rt.alloc()))?;
+    let worker = after_one_turn(rt.alloc(), &mut dialer)?;
     sent(&worker);
-    let mut desk = desk(alloc)?;
-    let mut dialer = dialer(alloc, Vec::new(alloc))?;
-    let clock = StepClock::new(1, 1);
-    assert_eq!(rt;
-        one_turn(&mut worker, &mut desk, &mut dialer, &clock),
-        Turned::Again
-    );
+    assert_eq!(rt; worker.end(), None);
     assert_eq!(rt; worker.log(), [read_at(1, 4, 5)].as_slice());
-    let bytes = [0, 1, 0, 0, 0, 6, 1, 3, 0x9D, 0x76, 0, 8];
-    let link = dialer.log().link(0).ok_or("a link")?;
-    assert_eq!(rt; link.sent(), bytes.as_slice());
+    assert!(rt; has_sent(&dialer, &[0, 1, 0, 0, 0, 6, 1, 3, 0x9D, 0x76, 0, 8]));
     Ok(())
 }
 
 #[test]
 fn a_second_reply_to_a_write_is_passed_over(rt: HostRuntime) -> Result<(), Fail> {
-    let alloc = rt.alloc();
-    let mut worker = worker(alloc, 2, 70_000)?;
-    let mut desk = desk(alloc)?;
-    let first = shown(alloc, 1, [0, 100])?;
-    let last = shown(alloc, 3, [3, 0xE8])?;
-    let mut dialer = dialer(alloc, vec![in alloc; first, wrote_twice(alloc)?, last]?)?;
-    let clock = StepClock::new(1, 1);
-    assert_eq!(rt;
-        one_turn(&mut worker, &mut desk, &mut dialer, &clock),
-        Turned::Again
-    );
-    assert_eq!(rt;
-        one_turn(&mut worker, &mut desk, &mut dialer, &clock),
-        Turned::Again
-    );
-    let write = Sent {
-        request: Asked::Write(Write {
-            inverter: 0,
-            link: 1,
-            number: 2,
-            at: 70_007,
-            raw: 1_000,
-        }),
-        clock: 70_008,
-    };
-    let log = [read_at(1, 4, 5), write, read_at(3, 70_009, 70_010)];
+    let mut dialer = dialer(rt.alloc(), twice_answered(rt.alloc())?)?;
+    let worker = after_two_turns(rt.alloc(), &mut dialer)?;
+    let log = [
+        read_at(1, 4, 5),
+        write_at(2, 70_007, 70_008),
+        read_at(3, 70_009, 70_010),
+    ];
     assert_eq!(rt; worker.log(), log.as_slice());
     Ok(())
 }

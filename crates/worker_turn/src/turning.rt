@@ -39,6 +39,7 @@ pub(crate) fn go_on<D: Desk, N: Dialer, K: Clock>(
         (world_of (D.state desk.new) (N.links dialer.new) (N.faults dialer.new) watch.new.readings inbox.new) }
     ensures last { TestsLast (D.may_tell desk.old) (D.may_tell desk.new) (D.was_full desk.old) (D.was_full desk.new)
         (D.ended desk.old) (D.ended desk.new) (D.was_full_life desk.old) (D.was_full_life desk.new) }
+    ensures kept { D.kept desk.new ≡ D.kept desk.old }
     ensures clock { watch.new.clock ≡ watch.old.clock }
 {
     let (mut state, mut output) = begun;

@@ -1,4 +1,4 @@
-ghost use Rattle.std.specs.Prelude.{◌≡◌, ◌<◌, ◌≤◌, [], length};
+ghost use Rattle.std.specs.Prelude.{◌≡◌, ◌<◌, ◌≤◌, [], length, MatchOption};
 ghost use Rattle.inverter_worker.specs.declared.state.End.{End as Ending};
 
 use crate::begin::{begin, turned};
@@ -71,6 +71,16 @@ impl Worker {
         &self.log
     }
 
+    /// How the worker is over, or nothing while it is ready for a turn.
+    pub fn end(&self) -> Option<End>
+        ensures { MatchOption result (self.now.state.step ≡ Step.Ready) (λ end. self.now.state.step ≡ Step.Over end) }
+    {
+        match self.state.step {
+            Step::Over(end) => Some(end),
+            _ => None,
+        }
+    }
+
     /// One turn: aims at the goal that the desk tells, asks for a limit or reads it back over the link that the dialer
     /// makes, and rests. It takes its room first: two entries of the log. It may wait, as the desk, the dialer and the
     /// clock may. A worker that is over does nothing.
@@ -110,12 +120,16 @@ impl Worker {
             ≡ world_of (D.state desk.old) (N.links dialer.old) (N.faults dialer.old) watch.old.readings
             self.old.unread) }
 
+        // A worker that is ready again has fewer turns left.
+        ensures fewer { result ≡ Turned.Again → self.new.state.turns < self.old.state.turns }
+
         // It rolls no book, and what passed a test of the desk passes it later too.
         ensures rolls { (D.state desk.new).rolls ≡ (D.state desk.old).rolls }
         ensures inverters { (D.state desk.new).inverters ≡ (D.state desk.old).inverters }
         ensures last { TestsLast (D.may_tell desk.old) (D.may_tell desk.new) (D.was_full desk.old)
             (D.was_full desk.new) (D.ended desk.old) (D.ended desk.new) (D.was_full_life desk.old)
             (D.was_full_life desk.new) }
+        ensures kept { D.kept desk.new ≡ D.kept desk.old }
         ensures clock { watch.new.clock ≡ watch.old.clock }
     {
         if let Step::Over(end) = self.state.step {

@@ -1,4 +1,4 @@
-use Rattle.std.proofs.Common.{◌≡◌, ◌≢◌, ◌++◌, ◌∷◌, [], ℕ, ◌+◌, ◌<◌, ◌≤◌, Some, None, refl, sym, ap, subst, ◌∙◌, arith, length, length-append}
+use Rattle.std.proofs.Common.{◌≡◌, ◌≢◌, false, ◌++◌, ◌∷◌, [], ℕ, ◌+◌, ◌<◌, ◌≤◌, Some, None, refl, sym, ap, subst, ◌∙◌, arith, length, length-append}
 use Rattle.std.specs.Prelude.{vec_len, vec_capacity}
 use Rattle.plant_book.specs.declared.call.Write as writes
 use Rattle.inverter_worker.specs.declared.state.Step.TheVariants.{Ready}
@@ -8,7 +8,7 @@ use Rattle.inverter_worker.specs.Runs.{sends_of}
 use Rattle.inverter_worker.proofs.Turns.{clock_left, requests_left}
 use Rattle.inverter_worker.proofs.Answered.{answered}
 use Rattle.worker_turn.specs.Doing.{world_of}
-use Rattle.worker_turn.specs.Acts.{ticket_after, held}
+use Rattle.worker_turn.specs.Acts.{is_last, ticket_after, held}
 use Rattle.worker_turn.proofs.Rows.{led, not_ready}
 use Rattle.worker_turn.proofs.Going.{at_first, one_more, answers, moves}
 use Rattle.worker_turn.proofs.Rooms.{uses, begins_stands, begins_held, begins_clock, begins_room, lasting, same}
@@ -24,6 +24,7 @@ loop-output-init g c =
       later = [];
       follows = at_first _ _ c.args.job.now begun.0 begun.1 c.args.log.now.items world stands c.requires.reached.0 c.requires.reached.1 c.requires.reached.2;
       last = same _ _ _ _;
+      kept = refl;
       ticket = begins_held c.args.job.now begun.0.step begun.1 c.requires.begun;
       clock = refl;
       readings = omega (arith, none, begins_clock c.args.job.now begun.0.step begun.1 c.requires.begun);
@@ -40,14 +41,14 @@ next-requires-clause-row g c =
 pub next-requires-clause-room : goal.next-requires-clause-room
 next-requires-clause-room g c = λ next request clock is.
     let invariant = c.loop-output.invariant in
-    let within = not_ready c.args.job.now c.loop-output.state.step c.loop-output.output c.perform-came.result.input _ _ invariant.follows.stands c.perform-came.ensures.done in
+    let within = not_ready c.args.job.now c.loop-output.state.step c.loop-output.output (sym c.is_last.ensures ∙ c.loop-output-test.true) invariant.follows.stands in
     let used = uses c.args.job.now c.loop-output.state next c.perform-came.result.input (output.Send request clock) within is in
     let some : 0 < requests_left c.loop-output.state.step = omega (arith, used.requests) in
     omega (arith, invariant.room some, some)
 
 pub loop-output-smaller : goal.loop-output-smaller
 loop-output-smaller g c =
-    let within = not_ready c.args.job.now c.loop-output.state.step c.loop-output.output c.perform-came.result.input _ _ c.loop-output.invariant.follows.stands c.perform-came.ensures.done in
+    let within = not_ready c.args.job.now c.loop-output.state.step c.loop-output.output (sym c.is_last.ensures ∙ c.loop-output-test.true) c.loop-output.invariant.follows.stands in
     let used = uses c.args.job.now c.loop-output.state c.next.result.0 c.perform-came.result.input c.next.result.1 within c.next.ensures.row in
     omega (arith, used.steps)
 
@@ -61,17 +62,19 @@ loop-output-preserved g c =
     let following = c.next.result.1 in
     let invariant = c.loop-output.invariant in
     let done = c.perform-came.ensures.done in
-    let within = not_ready job state.step last came _ _ invariant.follows.stands done in
+    let going : is_last last ≡ false = sym c.is_last.ensures ∙ c.loop-output-test.true in
+    let within = not_ready job state.step last going invariant.follows.stands in
     let used = uses job state next came following within c.next.ensures.row in
-    let goes = led job state next last following came _ _ invariant.follows.stands done c.next.ensures.row in
+    let goes = led job state next last following came _ _ going invariant.follows.stands done c.next.ensures.row in
     let does = moves job last came _ _ done in
     let grown = length-append c.loop-output.watch.readings (reading_in came) in
     let read = ap length does.readings in
     record {
       later = invariant.later ++ record { state = state; input = came; output = following } ∷ [];
-      follows = one_more _ _ _ _ job c.args.begun.0 c.args.begun.1 invariant.later state next last following came _ _ _ _ _ _ invariant.follows done c.next.ensures.row
+      follows = one_more _ _ _ _ job c.args.begun.0 c.args.begun.1 invariant.later state next last following came _ _ _ _ _ _ invariant.follows going done c.next.ensures.row
           c.perform-came.ensures.last.goals c.perform-came.ensures.last.full c.perform-came.ensures.told c.next.ensures.noted;
       last = lasting _ _ _ _ _ _ _ _ _ _ _ _ invariant.last c.perform-came.ensures.last;
+      kept = c.perform-came.ensures.kept ∙ invariant.kept;
       ticket = c.perform-came.ensures.ticket ∙ ap (ticket_after last came) invariant.ticket ∙ goes.ticket;
       clock = c.perform-came.ensures.clock ∙ invariant.clock;
       readings = omega (arith, read, grown, used.clock, invariant.readings);

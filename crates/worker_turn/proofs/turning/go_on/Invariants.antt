@@ -17,6 +17,7 @@ invariant-loop-output g l = record {
       (world_of (g.D.Desk.state l.desk) (g.N.Dialer.links l.dialer) (g.N.Dialer.faults l.dialer) l.watch.readings l.inbox);
   last : TestsLast (g.D.Desk.may_tell l.fn.desk) (g.D.Desk.may_tell l.desk) (g.D.Desk.was_full l.fn.desk) (g.D.Desk.was_full l.desk)
       (g.D.Desk.ended l.fn.desk) (g.D.Desk.ended l.desk) (g.D.Desk.was_full_life l.fn.desk) (g.D.Desk.was_full_life l.desk);
+  kept : g.D.Desk.kept l.desk ≡ g.D.Desk.kept l.fn.desk;
   ticket : l.ticket ≡ held l.state.step;
   clock : l.watch.clock ≡ l.fn.watch.clock;
   readings : length l.watch.readings + clock_left l.state.step ≤ 6;

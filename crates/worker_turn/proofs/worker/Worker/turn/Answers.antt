@@ -1,10 +1,11 @@
-use Rattle.std.proofs.Common.{◌≡◌, ◌≤◌, ℕ, List, length, refl, sym, ap, subst, ◌∙◌}
+use Rattle.std.proofs.Common.{◌≡◌, ◌≤◌, ◌+◌, ℕ, suc, List, length, refl, sym, ap, subst, ◌∙◌}
 use Rattle.inverter_worker.specs.declared.output.Sent.{Sent}
 use Rattle.inverter_worker.specs.declared.state.Step.TheVariants.{Ready}
 use Rattle.worker_turn.specs.Doing.{World, world_of}
 use Rattle.worker_turn.specs.Worker.{WorkerRecord, IsTurn}
 use Rattle.worker_turn.specs.Turning.{GoesOn}
-use Rattle.worker_turn.proofs.Turn.{between, whole, few, idle}
+use Rattle.worker_turn.proofs.Turn.{between, whole, few, idle, again_ready}
+use Rattle.worker_turn.proofs.Fewer.{left, fewer, ready_fewer}
 use Rattle.worker_turn.proofs.worker.Worker.turn.Goals as goal
 
 pub returns : goal.returns
@@ -43,6 +44,9 @@ returns g c =
         i.1 ∙ ap (λ (w : WorkerRecord). world_of desk links faults readings w.unread) view,
       );
       over = λ end is. absurd (c.in_default.not-Over end (ap (λ (w : WorkerRecord). w.state.step) view ∙ is));
+      fewer = λ again. ready_fewer after.state.step after.state.turns c.args.self.now.state.turns (again_ready c.turned.result after.state.step c.turned.ensures again)
+          (subst (λ (w : WorkerRecord). left after.state + 1 ≤ suc w.state.turns) view (fewer may_tell was_full before after old new ready turn));
+      kept = c.go_on-state.ensures.kept;
       rolls = goes.follows.rolls;
       inverters = goes.follows.inverters;
       last = c.go_on-state.ensures.last;
