@@ -1,0 +1,4 @@
+pub mod Own
+pub mod Works
+pub mod Running
+pub mod Rounds
