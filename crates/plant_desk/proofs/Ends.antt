@@ -1,5 +1,5 @@
 -- How a desk begins, how its passes part and come together, and how it ends.
-use Rattle.std.proofs.Common.{◌≡◌, ◌≢◌, ℕ, zero, suc, ◌+◌, ◌<◌, ◌≤◌, Bool, true, false, List, [], ◌∷◌, ◌++◌, map, length, set, take, drop, get_or, Option, Some, None, refl, sym, ap, subst, ◌∙◌, ⊎_elim, arith}
+use Rattle.std.proofs.Common.{◌≡◌, ◌≢◌, ℕ, zero, suc, ◌+◌, ◌≤◌, false, List, [], ◌∷◌, ◌++◌, map, length, set, take, drop, Some, None, refl, sym, ap, subst, ◌∙◌, ⊎_elim, arith}
 use Rattle.std.specs.Prelude.{All}
 use Rattle.std.specs.List.{sum_by, range_with_len}
 use Rattle.std.proofs.lemmas.List.Elements.{All-nil, All-cons, All-head, All-tail, All-append}
@@ -9,17 +9,16 @@ use mathlib.Core.Option.{some, none, some-ne-none, some-injective}
 use mathlib.Core.Option as maybe
 use native.Mathlib.Decide.{ℕ_discrete}
 use lib.ListN.{get_elem?}
-use Rattle.atomic_table.specs.Table.{State, Step, step, Splits, Joins, Enters, Final, Seen, opening}
+use Rattle.atomic_table.specs.Table.{step, Splits, Joins, Enters, Final, Seen, opening}
 use Rattle.atomic_table.proofs.Lists.{at_set, at_snoc, set_else, at_longer}
 use Rattle.plant_book.specs.Part.{PartRecord}
-use Rattle.plant_book.specs.Life.{IsLife}
 use Rattle.plant_ledger.specs.Plant as ledger
 use Rattle.plant_desk.specs.declared.deed.Deed.{Deed}
 use Rattle.plant_desk.specs.declared.board.Hand.{Hand}
 use Rattle.plant_desk.specs.declared.board.View.{View}
-use Rattle.plant_desk.specs.Deeds.{author, first_life, life_of, front, base}
+use Rattle.plant_desk.specs.Deeds.{author, life_of}
 use Rattle.plant_desk.specs.Hands.{hand, spent, first_view, first_of, others_of, both, weight}
-use Rattle.plant_desk.specs.Rule.{Slot, Table, last_book, IsHand, IsView, IsTaken, IsDesk, Comes, IsOver}
+use Rattle.plant_desk.specs.Rule.{Slot, Table, last_book, IsHand, IsView, IsDesk, Comes, IsOver}
 use Rattle.plant_desk.specs.Deeds.{entries_by, rolls_by}
 use Rattle.plant_desk.specs.Passes.{DeskRecord, PassRecord, first_place, entries, rolls, IsClosed}
 use Rattle.plant_desk.specs.Kept.{as_hand}

@@ -1,7 +1,6 @@
 -- What a call leaves of the fields of its pass.
-use Rattle.std.proofs.Common.{◌≡◌, ℕ, List, [], ◌∷◌, ◌++◌, Option, Some, None, refl, sym, ap, subst, ◌∙◌, append_assoc, ◌⊎◌, inl, inr, ⊎_elim, arith, ◌<◌, ◌+◌, length, length-append}
+use Rattle.std.proofs.Common.{◌≡◌, ℕ, List, [], ◌∷◌, ◌++◌, refl, sym, ap, subst, ◌∙◌, append_assoc, ◌⊎◌, inl, inr, ⊎_elim, arith, ◌+◌, length, length-append}
 use Rattle.atomic_table.specs.declared.shared.Seat.{Seat}
-use Rattle.atomic_table.specs.Seated.{TableId}
 use Rattle.plant_book.specs.declared.call.Call.{Call}
 use Rattle.plant_book.specs.declared.call.Reply.{Reply}
 use Rattle.plant_book.specs.Site.{SiteRecord}
@@ -13,55 +12,53 @@ use Rattle.plant_book.proofs.Lives.{life_is_behind}
 use Rattle.plant_ledger.specs.Plant.{IsFullLife}
 use Rattle.plant_ledger.specs.declared.rolling.RollFault.{RollFault}
 use Rattle.plant_ledger.specs.declared.rolling.RollFault.TheVariants.{LifeFull, NoMemory}
-use Rattle.plant_book.specs.Life.{Life, IsLife, entries_of}
+use Rattle.plant_book.specs.Life.{IsLife, entries_of}
 use Rattle.plant_desk.specs.declared.deed.Deed.{Deed}
 use Rattle.plant_desk.specs.declared.deed.Deed.TheVariants.{Entered, Rolled}
 use Rattle.plant_desk.specs.declared.board.Hand.{Hand}
 use Rattle.plant_desk.specs.declared.board.View.{View}
 use Rattle.plant_desk.specs.declared.pass.Pass.TheInside.{Inside}
 use Rattle.plant_desk.specs.Deeds.{life_of, joined, front, base}
-use Rattle.plant_desk.specs.Hands.{hand, seen_of}
+use Rattle.plant_desk.specs.Hands.{hand, first_hand}
 use Rattle.plant_desk.specs.Rule.{Slot, Sat, TakesOut, HasRolled, resting, told, plant_of}
-use Rattle.plant_desk.specs.Passes.{DeskRecord, PassRecord, after, Finds, Looks, FindsFull, Enters, RollsOver, IsFull, RefusesRoll}
-use Rattle.plant_desk.specs.Kept.{pass_of, IsPass}
+use Rattle.plant_desk.specs.Passes.{PassRecord, after, Finds, Looks, FindsFull, Enters, RollsOver, IsFull, RefusesRoll}
+use Rattle.plant_desk.specs.Kept.{known_by, pass_of, hand_of, IsPass}
 use Rattle.plant_desk.proofs.Lives.{each_before}
 use Rattle.plant_desk.proofs.Passes.{IsMore, rests_as, site-plant_of}
 use Rattle.plant_desk.proofs.Passes as made
 
--- the hand of a pass
-abbrev pub hand_of : Inside → Hand
-hand_of p = hand p.about.value.plant.value p.about.value.passes p.number (seen_of p.place.me.0)
-
 -- its fields with another seat
 abbrev pub with_place : Inside → Seat Slot View → Inside
-with_place p place = record { number = p.number; about = p.about; place = place }
+with_place p place = record { number = p.number; place = place }
 
 module _ (p : Inside) (place : Seat Slot View) (later : List Deed) (rests : place.me ≡ resting (told (hand_of p) later)) where
-  pub seen_after : seen_of place.me.0 ≡ seen_of p.place.me.0 ++ later
-  seen_after = ap (λ (m : Sat). seen_of m.0) rests
-
   pub is_pass : IsPass (with_place p place)
-  is_pass = rests ∙ ap (λ (ds : List Deed). resting (hand p.about.value.plant.value p.about.value.passes p.number ds)) (sym seen_after)
+  is_pass = rests ∙ sym (ap (λ (m : Sat). resting (hand (first_hand m.0).plant (first_hand m.0).passes p.number (first_hand m.0).seen)) rests)
 
   -- its value is the one before, with what it has seen since
   pub value_after : (value : PassRecord) → pass_of p ≡ value → place.table_id ≡ p.place.table_id → after value later ≡ pass_of (with_place p place)
   value_after value is same =
       ap (λ (v : PassRecord). after v later) (sym is) ∙ sym (rests_as place.table_id (pass_of p) later place.me p.place.table_id refl same rests)
 
+-- it is a pass of the same desk and number
+abbrev IsSame : PassRecord → PassRecord → Type 0
+IsSame old new = (new.desk ≡ old.desk) × (new.number ≡ old.number)
+
+stays : (old new : PassRecord) (later : List Deed) → new ≡ after old later → IsSame old new
+stays old new later is = (ap (λ (v : PassRecord). v.desk) is, ap (λ (v : PassRecord). v.number) is)
+
+pub looks_same : (old new : PassRecord) → Looks old new → IsSame old new
+looks_same old new is = stays old new is.between is.seen
+
+pub enters_same : (old new : PassRecord) (call : Call) (reply : Reply) → Enters old call reply new → IsSame old new
+enters_same old new call reply is = stays old new (is.between ++ Entered old.number is.entry ∷ []) is.seen
+
+pub rolls_same : (old new : PassRecord) (ended : PartRecord) → RollsOver old ended new → IsSame old new
+rolls_same old new ended is = stays old new (is.between ++ Rolled old.number ∷ []) is.seen
+
 -- what the pass found with the turn
 pub finds : (p : Inside) (value : PassRecord) (plant : PartRecord) (me : Sat) → pass_of p ≡ value → (out : TakesOut (hand_of p) plant me) → Finds value out.between
 finds p value plant me is out = subst (λ (v : PassRecord). Finds v out.between) is (record { others = out.others; answered = out.answered })
-
--- it is a pass of the same desk and number
-pub stays : (p : Inside) (value : PassRecord) (place : Seat Slot View) → pass_of p ≡ value → place.table_id ≡ p.place.table_id
-    → ((pass_of (with_place p place)).desk ≡ value.desk) × ((pass_of (with_place p place)).number ≡ value.number)
-stays p value place is same = (
-  ap (λ (n : TableId). desk_named n) same ∙ ap (λ (v : PassRecord). v.desk) is,
-  ap (λ (v : PassRecord). v.number) is,
-)
-  where
-    desk_named : TableId → DeskRecord
-    desk_named name = record { name = name; book = p.about.value.plant.value; passes = p.about.value.passes }
 
 -- a look
 pub looks : (p : Inside) (value : PassRecord) (plant : PartRecord) (me : Sat) (place : Seat Slot View) → pass_of p ≡ value → (out : TakesOut (hand_of p) plant me)
@@ -105,13 +102,13 @@ module _ (p : Inside) (value : PassRecord) (plant : PartRecord) (me : Sat) (plac
   -- a full book
   pub finds_full : (calls : ℕ) → calls ≡ length plant.entries → calls ≡ plant.site.room → place.me ≡ resting (told (hand_of p) out.between) → FindsFull value calls (pass_of (with_place p place))
   finds_full calls many room rests =
-      let life = life_of p.about.value.plant.value (seen_of p.place.me.0 ++ out.between) in
-      let seen = seen_after p place out.between rests in
+      let life = life_of (known_by p).plant ((known_by p).seen ++ out.between) in
+      let seen = ap (λ (m : Sat). (first_hand m.0).seen) rests in
       record {
         looks = looks p value plant me place view_is out rests same;
         room = room ∙ ap (λ (s : SiteRecord). s.room) site_is;
-        full = subst (λ (v : PassRecord). front v.desk.book (seen_of place.me.0) ≡ base v.desk.book (seen_of place.me.0) + calls) view_is
-            (subst (λ (ds : List Deed). front p.about.value.plant.value ds ≡ base p.about.value.plant.value ds + calls) (sym seen)
+        full = subst (λ (v : PassRecord). front v.desk.book (first_hand place.me.0).seen ≡ base v.desk.book (first_hand place.me.0).seen + calls) view_is
+            (subst (λ (ds : List Deed). front (known_by p).plant ds ≡ base (known_by p).plant ds + calls) (sym seen)
             (length-append (entries_of life.ended) life.last.entries ∙ ap (λ (n : ℕ). length (entries_of life.ended) + n) (ap (λ (b : PartRecord). length b.entries) (sym out.on) ∙ sym many)));
       }
 
@@ -119,10 +116,10 @@ module _ (p : Inside) (value : PassRecord) (plant : PartRecord) (me : Sat) (plac
   pub refuses_roll : (fault : RollFault) → place.me ≡ resting (told (hand_of p) out.between)
       → (IsFullLife plant × (fault ≡ LifeFull (calls_of plant))) ⊎ ((¬ IsFullLife plant) × (fault ≡ NoMemory)) → RefusesRoll value fault (pass_of (with_place p place))
   refuses_roll fault rests cause =
-      let first = p.about.value.plant.value in
-      let found : List Deed = seen_of p.place.me.0 ++ out.between in
+      let first = (known_by p).plant in
+      let found : List Deed = (known_by p).seen ++ out.between in
       let life = life_of first found in
-      let seen = seen_after p place out.between rests in
+      let seen = ap (λ (m : Sat). (first_hand m.0).seen) rests in
       let calls : calls_of plant ≡ front first found = ap calls_of out.on ∙ calls_of-is life.last (entries_of life.ended) (life_is_behind life out.answered) in
       let room : plant.site.room ≡ first.site.room = ap (λ (b : PartRecord). b.site.room) out.on ∙ ap (λ (s : SiteRecord). s.room) (site-plant_of (told (hand_of p) out.between)) in
       let Cause : PartRecord → List Deed → Type 0 = λ b ds. ((fault ≡ LifeFull (front b ds)) × IsFull b ds) ⊎ ((fault ≡ NoMemory) × (¬ IsFull b ds)) in
@@ -132,5 +129,5 @@ module _ (p : Inside) (value : PassRecord) (plant : PartRecord) (me : Sat) (plac
       cause in
       record {
         looks = looks p value plant me place view_is out rests same;
-        cause = subst (λ (v : PassRecord). Cause v.desk.book (seen_of place.me.0)) view_is (subst (λ (ds : List Deed). Cause first ds) (sym seen) there);
+        cause = subst (λ (v : PassRecord). Cause v.desk.book (first_hand place.me.0).seen) view_is (subst (λ (ds : List Deed). Cause first ds) (sym seen) there);
       }

@@ -1,10 +1,10 @@
 -- Each step keeps the rule of a desk.
-use Rattle.std.proofs.Common.{◌≡◌, ◌≢◌, ◌⊎◌, ℕ, zero, suc, ◌+◌, ◌<◌, ◌≤◌, eqb, Bool, true, false, true≢false, List, [], ◌∷◌, ◌++◌, map, length, set, take, drop, get_or, Option, Some, None, refl, sym, ap, subst, ◌∙◌, append_assoc, ⊎_elim, inl, inr, arith, eq-eqb, ne_eqb}
-use Rattle.std.specs.Prelude.{All, slice_index}
+use Rattle.std.proofs.Common.{◌≡◌, ◌≢◌, ℕ, zero, suc, ◌+◌, ◌<◌, ◌≤◌, eqb, Bool, true, false, true≢false, List, [], ◌∷◌, ◌++◌, length, set, get_or, Some, None, refl, sym, ap, subst, ◌∙◌, append_assoc, ⊎_elim, arith, eq-eqb, ne_eqb}
+use Rattle.std.specs.Prelude.{All}
 use Rattle.std.specs.List.{sum_by, range_with_len}
 use Rattle.std.proofs.lemmas.List.{append-nil}
 use Rattle.std.proofs.lemmas.List.Elements.{All-nil, All-cons, All-head, All-tail, All-append}
-use Rattle.std.proofs.lemmas.List.Sums.{sum_by-cons, sum_by-append}
+use Rattle.std.proofs.lemmas.List.Sums.{sum_by-cons}
 use mathlib.Core.Logic.{dite}
 use mathlib.Core.Option.{some, none, some-ne-none, some-injective}
 use mathlib.Core.Option as maybe
@@ -12,21 +12,21 @@ use native.Mathlib.Decide.{ℕ_discrete}
 use lib.ListN.{get_elem?}
 use lib.Seq.{set-get_or}
 use prog.Atomic.{either}
-use Rattle.atomic_table.specs.Table.{State, Me, Act, step, stepped, keeps, takes, gives, Allows, Splits, Joins}
-use Rattle.atomic_table.proofs.Lists.{at_set, at_snoc, set_again, set_here, set_else, at_longer}
+use Rattle.atomic_table.specs.Table.{step, stepped, keeps, takes, gives, Allows}
+use Rattle.atomic_table.proofs.Lists.{at_set, set_again, set_here}
 use Rattle.plant_book.specs.declared.book.Entry.{Entry}
 use Rattle.plant_book.specs.Part.{PartRecord}
 use Rattle.plant_book.specs.Life.{Life, IsLife}
-use Rattle.plant_ledger.specs.Plant.{with_one, next_book}
+use Rattle.plant_ledger.specs.Plant.{with_one}
 use Rattle.plant_desk.specs.declared.deed.Deed.{Deed}
 use Rattle.plant_desk.specs.declared.deed.Deed.TheVariants.{Entered, Rolled}
 use Rattle.plant_desk.specs.declared.board.Hand.{Hand}
 use Rattle.plant_desk.specs.declared.board.View.{View}
-use Rattle.plant_desk.specs.Deeds.{author, AreOthers, after, life_of, front, base}
-use Rattle.plant_desk.specs.Hands.{hand, idle, busy, spent, first_view, first_of, others_of, both, weight}
-use Rattle.plant_desk.specs.Rule.{Slot, Table, Sat, last_book, IsHand, HasTurn, IsView, IsTaken, IsDesk, told, resting, holding, plant_of, Takes, Tries, SeesFront, SeesBase, Raises, Cuts, Gives}
-use Rattle.plant_desk.proofs.Lives.{life_of-push, front-entered, base-entered, front-rolled, base-rolled}
-use Rattle.plant_desk.proofs.Sums.{sum_by-set_at, one-le-sum_by, two-le-sum_by, is_one, is_one-same, sum_by-once}
+use Rattle.plant_desk.specs.Deeds.{author, AreOthers, life_of, front, base}
+use Rattle.plant_desk.specs.Hands.{hand, idle, busy, weight}
+use Rattle.plant_desk.specs.Rule.{Slot, Table, Sat, IsHand, IsView, IsDesk, told, resting, holding, plant_of, Takes, Tries, SeesFront, SeesBase, Raises, Cuts, Gives}
+use Rattle.plant_desk.proofs.Lives.{front-entered, base-entered, front-rolled, base-rolled}
+use Rattle.plant_desk.proofs.Sums.{sum_by-set_at, two-le-sum_by, is_one, is_one-same, sum_by-once}
 
 pub off : false ≡ true → ⊥
 off e = true≢false (sym e)

@@ -4,3 +4,5 @@ pub mod Kept
 pub mod Passes
 pub mod Fields
 pub mod Ends
+pub mod Later
+pub mod Meant

@@ -1,20 +1,20 @@
 -- The life of a desk, one deed at a time.
-use Rattle.std.proofs.Common.{◌≡◌, ℕ, ◌+◌, ◌<◌, ◌≤◌, List, [], ◌∷◌, ◌++◌, length, Option, Some, None, refl, sym, ap, subst, ◌∙◌, append_assoc, arith, length-append}
+use Rattle.std.proofs.Common.{◌≡◌, ℕ, ◌+◌, ◌<◌, ◌≤◌, List, [], ◌∷◌, ◌++◌, length, Some, None, refl, sym, ap, subst, ◌∙◌, append_assoc, arith, length-append}
 use Rattle.std.proofs.lemmas.List.{append-nil}
 use Rattle.plant_book.specs.declared.call.Call.{Call}
 use Rattle.plant_book.specs.declared.call.Reply.{Reply}
 use Rattle.plant_book.specs.declared.book.Entry.{Entry}
 use Rattle.plant_book.specs.Site.{SiteRecord}
-use Rattle.plant_book.specs.Part.{CarryRecord, PartRecord, book_behind}
+use Rattle.plant_book.specs.Part.{PartRecord, book_behind}
 use Rattle.plant_book.specs.Answered.{IsBook}
-use Rattle.plant_book.specs.Carry.{carry_of, IsBehind, IsBookPart, EachBefore}
+use Rattle.plant_book.specs.Carry.{carry_of, EachBefore}
 use Rattle.plant_book.specs.Life.{Life, IsLife, IsPart, AreParts, carry_behind, entries_of, joined_book}
 use Rattle.plant_book.proofs.Behind.{behind_nothing}
 use Rattle.plant_book.proofs.Lives.{life_is_behind}
-use Rattle.plant_ledger.specs.Plant.{IsKept, GoesOn, Rolls, entered, entry_of, with_one, next_book}
+use Rattle.plant_ledger.specs.Plant.{IsKept, GoesOn, Rolls, entered, entry_of, next_book}
 use Rattle.plant_desk.specs.declared.deed.Deed.{Deed}
 use Rattle.plant_desk.specs.declared.deed.Deed.TheVariants.{Entered, Rolled}
-use Rattle.plant_desk.specs.Deeds.{after, life_after, first_life, life_of, joined, front, base}
+use Rattle.plant_desk.specs.Deeds.{after, life_after, first_life, life_of, front, base}
 
 pub life_after-append : (life : Life) (deeds later : List Deed) → life_after life (deeds ++ later) ≡ life_after (life_after life deeds) later
 life_after-append life [] later = refl

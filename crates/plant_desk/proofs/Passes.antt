@@ -1,29 +1,27 @@
 -- What a pass has, one deed at a time.
-use Rattle.std.proofs.Common.{◌≡◌, ◌≢◌, ℕ, ◌+◌, ◌<◌, ◌≤◌, eqb, cond, Bool, true, false, List, [], ◌∷◌, ◌++◌, length, refl, sym, ap, subst, ◌∙◌, append_assoc, arith, length-append, eq-eqb, ne_eqb}
-use Rattle.std.specs.Prelude.{All}
+use Rattle.std.proofs.Common.{◌≡◌, ◌≢◌, ℕ, ◌+◌, ◌<◌, eqb, cond, Bool, true, false, List, [], ◌∷◌, ◌++◌, length, refl, sym, ap, subst, ◌∙◌, append_assoc, arith, length-append, eq-eqb, ne_eqb}
 use Rattle.std.proofs.lemmas.List.{append-nil}
 use Rattle.std.proofs.lemmas.List.Elements.{All-head, All-tail}
 use Rattle.atomic_table.specs.Seated.{TableId}
 use Rattle.plant_book.specs.declared.call.Call.{Call}
 use Rattle.plant_book.specs.declared.call.Reply.{Reply}
 use Rattle.plant_book.specs.declared.book.Entry.{Entry}
-use Rattle.plant_book.specs.Site.{SiteRecord}
 use Rattle.plant_book.specs.Part.{PartRecord}
 use Rattle.plant_book.specs.Carry.{EachBefore}
 use Rattle.plant_book.specs.Life.{Life, IsLife, entries_of, joined_book}
-use Rattle.plant_ledger.specs.Plant.{GoesOn, Rolls, entered, entry_of, with_one, right_reply, next_book}
+use Rattle.plant_ledger.specs.Plant.{GoesOn, Rolls, entered, entry_of, right_reply}
 use Rattle.plant_desk.specs.declared.deed.Deed.{Deed}
 use Rattle.plant_desk.specs.declared.deed.Deed.TheVariants.{Entered, Rolled}
 use Rattle.plant_desk.specs.declared.board.Hand.{Hand}
 use Rattle.plant_desk.specs.Deeds.{author, AreOthers, life_after, life_of, joined, front, base, Placed, entries_by, rolls_by}
 use Rattle.plant_desk.specs.Deeds as lives
-use Rattle.plant_desk.specs.Hands.{hand, seen_of}
-use Rattle.plant_desk.specs.Rule.{Sat, resting, told, plant_of, HasOneMore, HasRolled}
-use Rattle.plant_desk.specs.Passes.{DeskRecord, PassRecord, after, entries, rolls, first_place, Finds, Looks, FindsFull, Enters, RollsOver, StandsIn}
+use Rattle.plant_desk.specs.Hands.{hand, first_hand}
+use Rattle.plant_desk.specs.Rule.{Sat, resting, plant_of, HasOneMore, HasRolled}
+use Rattle.plant_desk.specs.Passes.{PassRecord, after, entries, rolls, first_place, Finds, Looks, Enters, RollsOver, StandsIn}
 use Rattle.plant_desk.proofs.Lives.{life_after-append, life_of-push, enters_life, rolls_life, each_before, entries_of-push, front-le}
 
 -- how many of the deeds entered a call
-abbrev calls_in : List Deed → ℕ
+abbrev pub calls_in : List Deed → ℕ
 calls_in [] = 0
 calls_in (Entered by entry ∷ deeds) = calls_in deeds + 1
 calls_in (Rolled by ∷ deeds) = calls_in deeds
@@ -40,7 +38,7 @@ length-after life (Entered by entry ∷ deeds) =
 length-after life (Rolled by ∷ deeds) =
     omega (arith, length-after (lives.after life (Rolled by)) deeds, ap (λ (es : List Entry). length es) (append-nil (entries_of (life.ended ++ life.last ∷ []))), ap (λ (es : List Entry). length es) (entries_of-push life.ended life.last))
 
-front-calls_in : (book : PartRecord) (deeds : List Deed) → front book deeds ≡ length book.entries + calls_in deeds
+pub front-calls_in : (book : PartRecord) (deeds : List Deed) → front book deeds ≡ length book.entries + calls_in deeds
 front-calls_in book deeds = length-after (lives.first_life book) deeds
 
 -- the entries and rolls of a pass among deeds and later ones
@@ -48,7 +46,7 @@ choose : {A : Type 0} (b : Bool) (x : A) (xs ys : List A) → cond b (x ∷ xs +
 choose true x xs ys = refl
 choose false x xs ys = refl
 
-entries_by-append : (number place : ℕ) (deeds later : List Deed) → entries_by number place (deeds ++ later) ≡ entries_by number place deeds ++ entries_by number (place + calls_in deeds) later
+pub entries_by-append : (number place : ℕ) (deeds later : List Deed) → entries_by number place (deeds ++ later) ≡ entries_by number place deeds ++ entries_by number (place + calls_in deeds) later
 entries_by-append number place [] later = ap (λ (p : ℕ). entries_by number p later) (omega arith)
 entries_by-append number place (Entered by entry ∷ deeds) later =
     ap (λ (es : List Placed). cond (eqb by number) (record { place = place; entry = entry } ∷ es) es) (entries_by-append number (place + 1) deeds later)
@@ -178,11 +176,11 @@ module _ (old : PassRecord) (between : List Deed) (finds : Finds old between) wh
 -- the value of a pass whose seat rests
 pub rests_as : (name : TableId) (old : PassRecord) (later : List Deed) (me : Sat) (was : TableId) → old.desk.name ≡ was → name ≡ was
     → me ≡ resting (hand old.desk.book old.desk.passes old.number (old.seen ++ later))
-    → record { desk = record { name = name; book = old.desk.book; passes = old.desk.passes }; number = old.number; seen = seen_of me.0 } ≡ after old later
+    → record { desk = record { name = name; book = (first_hand me.0).plant; passes = (first_hand me.0).passes }; number = old.number; seen = (first_hand me.0).seen } ≡ after old later
 rests_as name old later me was is now rests = λ i. record {
-  desk = record { name = (now ∙ sym is) i; book = old.desk.book; passes = old.desk.passes };
+  desk = record { name = (now ∙ sym is) i; book = (first_hand (rests i).0).plant; passes = (first_hand (rests i).0).passes };
   number = old.number;
-  seen = seen_of (rests i).0;
+  seen = (first_hand (rests i).0).seen;
 }
 
 -- every book of a life is of one site

@@ -1,5 +1,5 @@
 -- What passes do at a desk, and the life that it makes.
-use Rattle.std.specs.Prelude.{◌≡◌, ◌≢◌, ℕ, ◌+◌, ◌==◌, if◌then◌else◌, List, [], ◌∷◌, ◌++◌, length, All}
+use Rattle.std.specs.Prelude.{◌≢◌, ℕ, ◌+◌, ◌==◌, if◌then◌else◌, List, [], ◌∷◌, ◌++◌, length, All}
 use Rattle.plant_book.specs.declared.book.Entry.{Entry}
 use Rattle.plant_book.specs.Book.{BookRecord}
 use Rattle.plant_book.specs.Part.{PartRecord}

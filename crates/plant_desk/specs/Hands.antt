@@ -1,6 +1,9 @@
 -- What seats at the table of a desk know.
-use Rattle.std.specs.Prelude.{ℕ, List, [], ◌∷◌, ◌++◌, map, take, drop, false, true}
+use Rattle.std.specs.Prelude.{ℕ, List, [], ◌∷◌, ◌++◌, map, take, drop, false, true, None}
+use Rattle.std.proofs.Common.{lit≤}
 use Rattle.std.specs.List.{range_with_len, sum_by}
+use Rattle.limiter_num.specs.declared.rules.Rules.{Rules}
+use Rattle.plant_book.specs.declared.Policy.TheVariants.{Open}
 use Rattle.plant_book.specs.Part.{PartRecord}
 use Rattle.plant_desk.specs.declared.deed.Deed.{Deed}
 use Rattle.plant_desk.specs.declared.board.Hand.{Hand}
@@ -37,13 +40,38 @@ others_of view = record { hands = drop 1 view.hands; holds = view.holds }
 abbrev pub both : View → View → View
 both view other = record { hands = other.hands ++ view.hands; holds = view.holds }
 
--- what the first pass of a seat has seen
-abbrev pub seen_by : List Hand → List Deed
-seen_by [] = []
-seen_by (one ∷ hands) = one.seen
+-- what stands for the hand of a seat without a pass
+abbrev no_rules : Rules
+no_rules = record {
+  send = 1;
+  delay = 0;
+  timer = 1;
+  per_mille = 0;
+  slack = 0;
+  send_low = lit≤ tt;
+  send_high = lit≤ tt;
+  delay_high = lit≤ tt;
+  timer_low = lit≤ tt;
+  timer_high = lit≤ tt;
+  per_mille_high = lit≤ tt;
+  slack_high = lit≤ tt;
+}
 
-abbrev pub seen_of : View → List Deed
-seen_of view = seen_by view.hands
+abbrev no_book : PartRecord
+no_book = record {
+  site = record { cap = 0; rules = no_rules; policy = Open; room = 0; units = [] };
+  start = 0;
+  carry = None;
+  entries = [];
+}
+
+-- what the first pass of a seat knows
+abbrev pub first_by : List Hand → Hand
+first_by [] = hand no_book 0 0 []
+first_by (one ∷ hands) = one
+
+abbrev pub first_hand : View → Hand
+first_hand view = first_by view.hands
 
 -- the numbers of a seat's passes, weighed and added up
 abbrev pub weight : (ℕ → ℕ) → View → ℕ

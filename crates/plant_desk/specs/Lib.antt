@@ -3,3 +3,4 @@ pub mod Hands
 pub mod Rule
 pub mod Passes
 pub mod Kept
+pub mod DeskOf

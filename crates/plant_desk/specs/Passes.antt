@@ -10,7 +10,7 @@ use Rattle.plant_book.specs.declared.call.Reply.{Reply}
 use Rattle.plant_book.specs.declared.book.Entry.{Entry}
 use Rattle.plant_book.specs.Book.{BookRecord}
 use Rattle.plant_book.specs.Part.{PartRecord}
-use Rattle.plant_book.specs.Life.{Life, IsLife, joined_book}
+use Rattle.plant_book.specs.Life.{Life, IsLife}
 use Rattle.plant_ledger.specs.Plant.{entry_of, right_reply}
 use Rattle.plant_desk.specs.declared.deed.Deed.{Deed}
 use Rattle.plant_desk.specs.declared.deed.Deed.TheVariants.{Entered, Rolled}

@@ -1,5 +1,5 @@
 -- The rule of a desk's table, and what each step tells.
-use Rattle.std.specs.Prelude.{◌≡◌, ◌≢◌, ℕ, ◌+◌, ◌≤◌, List, [], ◌∷◌, ◌++◌, true, Option, Some, None, All}
+use Rattle.std.specs.Prelude.{◌≡◌, ◌≢◌, ℕ, ◌≤◌, List, [], ◌∷◌, ◌++◌, true, Option, Some, None, All}
 use Rattle.std.specs.List.{range_with_len, sum_by}
 use mathlib.Core.Option.{some, none}
 use mathlib.Core.Option as maybe
@@ -8,8 +8,8 @@ use Rattle.atomic_table.specs.Seated.{TableId}
 use Rattle.atomic_table.specs.Table.{State, Me, Step}
 use Rattle.plant_book.specs.declared.book.Entry.{Entry}
 use Rattle.plant_book.specs.Part.{PartRecord}
-use Rattle.plant_book.specs.Life.{Life, IsLife, entries_of}
-use Rattle.plant_ledger.specs.Plant.{with_one, next_book}
+use Rattle.plant_book.specs.Life.{IsLife}
+use Rattle.plant_ledger.specs.Plant.{with_one}
 use Rattle.plant_desk.specs.declared.deed.Deed.{Deed}
 use Rattle.plant_desk.specs.declared.deed.Deed.TheVariants.{Entered, Rolled}
 use Rattle.plant_desk.specs.declared.board.Hand.{Hand}

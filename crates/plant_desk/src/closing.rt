@@ -43,7 +43,7 @@ fn take_out(desk: PlantDesk, place: Place) -> Plant
     requires all { desk.passes ≤ length place.me.0.hands }
     ensures { IsOver desk.book desk.passes place.me.0.hands (Some result) }
 {
-    let PlantDesk { boards, about: _ } = desk;
+    let PlantDesk { boards, passes: _ } = desk;
     let mut closed = boards.close_with(place);
     let slot = closed.take(PLANT);
     closed.free();
@@ -63,7 +63,7 @@ impl PlantDesk {
             × (refused.missing + vec_len passes ≡ self.passes) × (0 < refused.missing)) }
     {
         let handed = passes.len();
-        let made = self.about.passes;
+        let made = self.passes;
         if handed < made as usize {
             return Err(CloseRefused {
                 desk: self,

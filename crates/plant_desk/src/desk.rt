@@ -8,7 +8,7 @@ ghost use Rattle.plant_ledger.specs.Opening.{ticket_for};
 ghost use Rattle.plant_ledger.specs.Release.{back_of};
 ghost use Rattle.plant_desk.specs.Passes.{Looks, FindsFull, Enters, RollsOver, RefusesRoll, seen_book};
 
-use crate::board::{Boards, Opening};
+use crate::board::Boards;
 use crate::pass::Pass;
 use crate::turn::{calls_now, give_back, give_entered, give_rolled, take_turn};
 use plant_book::{Book, Call, MOMENT_MAX, Reply};
@@ -21,7 +21,7 @@ use std::sync::Wait;
 #[derive(Drop)]
 pub struct PlantDesk {
     pub(crate) boards: Boards,
-    pub(crate) about: Opening,
+    pub(crate) passes: u32,
 }
 
 impl Model for PlantDesk {

@@ -9,6 +9,7 @@ mod board;
 mod closing;
 mod deed;
 mod desk;
+mod desk_of;
 mod opening;
 mod pass;
 mod plays;
@@ -16,6 +17,7 @@ mod turn;
 
 pub use closing::CloseRefused;
 pub use desk::PlantDesk;
+pub use desk_of::DeskOf;
 pub use pass::Pass;
 
 #[cfg(test)]

@@ -36,7 +36,7 @@ fn lay(alloc: Global, plant: Plant, passes: u32) -> Result<(PlantDesk, Place), N
     };
     slots.push_reserved(Some(plant));
     match Table::new(alloc, &[calls, 0, 0], slots, &about) {
-        Ok((boards, place)) => Ok((PlantDesk { boards, about }, place)),
+        Ok((boards, place)) => Ok((PlantDesk { boards, passes }, place)),
         Err(_) => Err(NoMemory),
     }
 }
@@ -53,11 +53,7 @@ fn part(desk: &PlantDesk, place: &mut Place, number: u32) -> Pass
         → place.new.me ≡ (record { hands = others; holds = false }, []) }
 {
     let place = desk.boards.shared.split_seat::<Part>(place);
-    Pass {
-        number,
-        about: Snapshot::of(&desk.about),
-        place,
-    }
+    Pass { number, place }
 }
 
 impl PlantDesk {

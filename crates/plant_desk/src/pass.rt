@@ -1,15 +1,13 @@
 ghost use Rattle.std.specs.Prelude.{◌≡◌};
 
-use crate::board::{Opening, Place};
+use crate::board::Place;
 use std::marker::Model;
-use std::snapshot::Snapshot;
 
 /// The right of one caller to enter calls at a desk. It may go to another thread. Contracts see in it the
 /// entries that it made, each with its place, and its rolls; they take no memory.
 #[derive(Drop)]
 pub struct Pass {
     pub(crate) number: u32,
-    pub(crate) about: Snapshot<Opening>,
     pub(crate) place: Place,
 }
 

@@ -9,6 +9,9 @@ use std::process::Abort;
 use std::sync::Wait;
 use std::test::Fail;
 
+mod desk_of;
+mod threads;
+
 /// The first book of two inverters of 6 kW with floors of 600 W.
 fn plant(rt: &impl Abort, alloc: Global, room: u32) -> Result<Plant, Fail>
     ensures { IfOk result (λ plant. (plant.carry ≡ None) × (length plant.site.units ≡ 2)) }

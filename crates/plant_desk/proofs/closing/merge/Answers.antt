@@ -1,10 +1,8 @@
-use Rattle.std.proofs.Common.{◌≡◌, ◌<◌, ℕ, List, [], ◌∷◌, ◌++◌, map, length, get_or, Some, false, refl, sym, ap, subst, ◌∙◌, arith, append_assoc, length-append}
+use Rattle.std.proofs.Common.{◌≡◌, List, [], ◌∷◌, ◌++◌, ap, subst, ◌∙◌, arith}
 use Rattle.std.specs.Prelude.{All}
 use Rattle.std.proofs.lemmas.List.Elements.{All-head, All-tail}
-use Rattle.plant_desk.specs.declared.board.Hand.{Hand}
 use Rattle.plant_desk.specs.Rule.{Sat}
-use Rattle.plant_desk.specs.Passes.{DeskRecord, PassRecord}
-use Rattle.plant_desk.specs.Kept.{as_hand}
+use Rattle.plant_desk.specs.Passes.{PassRecord}
 use Rattle.plant_desk.proofs.Ends.{comes, joins}
 use Rattle.plant_desk.proofs.closing.merge.Goals as goal
 

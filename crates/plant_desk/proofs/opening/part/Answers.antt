@@ -1,4 +1,4 @@
-use Rattle.std.proofs.Common.{◌≡◌, sym, ap, ◌∙◌, arith}
+use Rattle.std.proofs.Common.{sym, ap, ◌∙◌, arith}
 use Rattle.plant_desk.specs.Rule.{Sat}
 use Rattle.plant_desk.specs.Passes.{DeskRecord}
 use Rattle.plant_desk.proofs.Ends.{splits}

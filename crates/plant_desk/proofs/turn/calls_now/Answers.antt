@@ -1,4 +1,4 @@
-use Rattle.std.proofs.Common.{◌≡◌, ◌+◌, length, Some, arith, sym, ◌∙◌, length-append}
+use Rattle.std.proofs.Common.{arith, ◌∙◌, length-append}
 use Rattle.plant_book.specs.Life.{entries_of}
 use Rattle.plant_desk.specs.Deeds.{life_of}
 use Rattle.plant_desk.proofs.turn.calls_now.Goals as goal

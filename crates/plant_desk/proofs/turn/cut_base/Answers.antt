@@ -1,4 +1,4 @@
-use Rattle.std.proofs.Common.{◌≡◌, Some, arith, ◌∙◌}
+use Rattle.std.proofs.Common.{Some, arith, ◌∙◌}
 use Rattle.plant_desk.proofs.Kept.{cuts}
 use Rattle.plant_desk.proofs.turn.cut_base.Goals as goal
 

@@ -1,4 +1,4 @@
-use Rattle.std.proofs.Common.{◌≡◌, Some, None, ap, sym, ◌∙◌}
+use Rattle.std.proofs.Common.{◌≡◌, Some, ap, sym, ◌∙◌}
 use Rattle.plant_book.specs.Part.{PartRecord}
 use Rattle.plant_desk.specs.declared.board.Hand.{Hand}
 use Rattle.plant_desk.specs.Rule.{holding, plant_of}

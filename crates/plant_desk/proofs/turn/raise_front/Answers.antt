@@ -1,4 +1,4 @@
-use Rattle.std.proofs.Common.{◌≡◌, ◌+◌, ℕ, Some, arith, ap, sym, ◌∙◌}
+use Rattle.std.proofs.Common.{◌+◌, ℕ, Some, arith, ap, sym, ◌∙◌}
 use Rattle.plant_book.specs.Part.{PartRecord}
 use Rattle.plant_desk.specs.Rule.{holding, told}
 use Rattle.plant_desk.specs.declared.deed.Deed.TheVariants.{Entered}

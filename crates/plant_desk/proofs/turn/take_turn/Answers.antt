@@ -1,6 +1,6 @@
-use Rattle.std.proofs.Common.{◌≡◌, Some, Bool, MatchBool, true, false, sym, subst, ◌∙◌, rules}
+use Rattle.std.proofs.Common.{◌≡◌, Bool, MatchBool, true, false, subst, ◌∙◌}
 use Rattle.plant_desk.specs.declared.board.Hand.{Hand}
-use Rattle.plant_desk.specs.Rule.{Sat, Takes, TakesOut, told}
+use Rattle.plant_desk.specs.Rule.{Sat, Takes, told}
 use Rattle.plant_desk.proofs.turn.take_turn.Goals as goal
 
 pub try_turn-requires-clause-rests : goal.try_turn-requires-clause-rests

@@ -1,4 +1,4 @@
-use Rattle.std.proofs.Common.{◌≡◌, Some, refl, ap}
+use Rattle.std.proofs.Common.{Some, refl, ap}
 use Rattle.plant_desk.specs.Rule.{Sat}
 use Rattle.plant_desk.proofs.Ends.{is_closed}
 use Rattle.plant_desk.proofs.desk.PlantDesk.close.Goals as goal

@@ -1,15 +1,16 @@
-use Rattle.std.proofs.Common.{◌≡◌, ◌<◌, ℕ, List, ◌++◌, sym, ap, subst, ◌∙◌, arith}
+use Rattle.std.proofs.Common.{◌≡◌, ◌<◌, sym, ap, subst, ◌∙◌}
 use Rattle.plant_book.specs.Site.{SiteRecord, inverters}
 use Rattle.plant_book.specs.Book.{BookRecord}
 use Rattle.plant_book.specs.Part.{PartRecord}
 use Rattle.plant_book.specs.Answer.{goal_raw, is_stopped}
 use Rattle.plant_book.specs.Reserved as sums
-use Rattle.plant_desk.specs.declared.deed.Deed.{Deed}
 use Rattle.plant_desk.specs.Deeds.{joined}
-use Rattle.plant_desk.specs.Rule.{told}
+use Rattle.plant_desk.specs.Hands.{first_hand}
+use Rattle.plant_desk.specs.Rule.{Sat, told}
 use Rattle.plant_desk.specs.Passes.{DeskRecord, PassRecord}
 use Rattle.plant_desk.proofs.Passes.{site-plant_of}
-use Rattle.plant_desk.proofs.Fields.{stays, hand_of, is_pass, looks, seen_after, at_joined}
+use Rattle.plant_desk.specs.Kept.{hand_of}
+use Rattle.plant_desk.proofs.Fields.{looks_same, is_pass, looks, at_joined}
 use Rattle.plant_desk.proofs.desk.PlantDesk.goal.Goals as goal
 
 pub goal-goal-requires : goal.goal-goal-requires
@@ -39,25 +40,22 @@ pub returns-clause-raw : goal.returns-clause-raw
 returns-clause-raw g c =
     let out = c.take_turn-plant.ensures.taken (hand_of c.pass.inside) c.pass.invariant in
     let one = told (hand_of c.pass.inside) out.between in
-    let seen = seen_after c.pass.inside c.give_back.new.place out.between (c.give_back.ensures.given one out.holds) in
-    subst (λ (ds : List Deed). c.goal-goal.result.raw ≡ goal_raw (joined one.plant ds) c.args.inverter) (sym seen)
+    subst (λ (m : Sat). c.goal-goal.result.raw ≡ goal_raw (joined (first_hand m.0).plant (first_hand m.0).seen) c.args.inverter) (sym (c.give_back.ensures.given one out.holds))
     (at_joined one _ (λ (b : BookRecord). c.goal-goal.result.raw ≡ goal_raw b c.args.inverter) out.on out.answered c.goal-goal.ensures.raw)
 
 pub returns-clause-reserved : goal.returns-clause-reserved
 returns-clause-reserved g c =
     let out = c.take_turn-plant.ensures.taken (hand_of c.pass.inside) c.pass.invariant in
     let one = told (hand_of c.pass.inside) out.between in
-    let seen = seen_after c.pass.inside c.give_back.new.place out.between (c.give_back.ensures.given one out.holds) in
-    subst (λ (ds : List Deed). c.goal-goal.result.reserved ≡ sums.reserved (joined one.plant ds) c.args.inverter) (sym seen)
+    subst (λ (m : Sat). c.goal-goal.result.reserved ≡ sums.reserved (joined (first_hand m.0).plant (first_hand m.0).seen) c.args.inverter) (sym (c.give_back.ensures.given one out.holds))
     (at_joined one _ (λ (b : BookRecord). c.goal-goal.result.reserved ≡ sums.reserved b c.args.inverter) out.on out.answered c.goal-goal.ensures.reserved)
 
 pub returns-clause-stop : goal.returns-clause-stop
 returns-clause-stop g c =
     let out = c.take_turn-plant.ensures.taken (hand_of c.pass.inside) c.pass.invariant in
     let one = told (hand_of c.pass.inside) out.between in
-    let seen = seen_after c.pass.inside c.give_back.new.place out.between (c.give_back.ensures.given one out.holds) in
-    subst (λ (ds : List Deed). c.goal-goal.result.stop ≡ is_stopped (joined one.plant ds)) (sym seen)
+    subst (λ (m : Sat). c.goal-goal.result.stop ≡ is_stopped (joined (first_hand m.0).plant (first_hand m.0).seen)) (sym (c.give_back.ensures.given one out.holds))
     (at_joined one _ (λ (b : BookRecord). c.goal-goal.result.stop ≡ is_stopped b) out.on out.answered c.goal-goal.ensures.stop)
 
 pub returns-clause-same : goal.returns-clause-same
-returns-clause-same g c = stays c.pass.inside _ c.give_back.new.place c.pass.view_is (c.give_back.ensures.same ∙ c.take_turn-plant.ensures.same)
+returns-clause-same g c = looks_same _ _ (returns-clause-looks g c)

@@ -1,14 +1,13 @@
-use Rattle.std.proofs.Common.{◌≡◌, ◌<◌, ℕ, List, [], ◌∷◌, ◌++◌, Some, None, sym, ap, subst, ◌∙◌, arith, refl, length}
-use Rattle.std.specs.Prelude.{IfSome}
+use Rattle.std.proofs.Common.{◌<◌, [], ◌∷◌, ◌++◌, None, sym, ap, subst, ◌∙◌, arith, refl, length}
 use Rattle.plant_book.specs.Site.{SiteRecord, inverters}
-use Rattle.plant_book.specs.Calls.{named}
 use Rattle.plant_book.specs.Part.{PartRecord}
 use Rattle.plant_ledger.specs.Release.{back_of}
 use Rattle.plant_desk.specs.declared.deed.Deed.TheVariants.{Entered}
 use Rattle.plant_desk.specs.Rule.{told}
 use Rattle.plant_desk.specs.Passes.{DeskRecord}
 use Rattle.plant_desk.proofs.Passes.{has_one_more}
-use Rattle.plant_desk.proofs.Fields.{stays, hand_of, is_pass, twice, site_is, enters, finds_full}
+use Rattle.plant_desk.specs.Kept.{hand_of}
+use Rattle.plant_desk.proofs.Fields.{enters_same, looks_same, is_pass, twice, site_is, enters, finds_full}
 use Rattle.plant_desk.proofs.desk.PlantDesk.release.Goals as goal
 
 pub release-requires-clause-of_site : goal.release-requires-clause-of_site
@@ -75,7 +74,7 @@ returns-in-Err-clause-full g c =
     c.calls_now-calls.result calls (calls ∙ sym c.in-Err.ensures.full.0 ∙ c.in-Err.ensures.full.1) (c.give_back.ensures.given one (c.calls_now-calls.ensures.same.1 ∙ out.holds))
 
 pub returns-in-Ok-clause-same : goal.returns-in-Ok-clause-same
-returns-in-Ok-clause-same g c = stays c.pass.inside _ c.give_entered.new.place c.pass.view_is (c.give_entered.ensures.same ∙ c.take_turn-plant.ensures.same)
+returns-in-Ok-clause-same g c = enters_same _ _ _ _ (returns-in-Ok-clause-entered g c)
 
 pub returns-in-Err-clause-same : goal.returns-in-Err-clause-same
-returns-in-Err-clause-same g c = stays c.pass.inside _ c.give_back.new.place c.pass.view_is (c.give_back.ensures.same ∙ c.calls_now-calls.ensures.same.0 ∙ c.take_turn-plant.ensures.same)
+returns-in-Err-clause-same g c = looks_same _ _ (returns-in-Err-clause-full g c).looks

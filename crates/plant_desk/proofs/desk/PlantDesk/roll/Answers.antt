@@ -1,8 +1,9 @@
-use Rattle.std.proofs.Common.{◌≡◌, [], ◌∷◌, ◌++◌, None, sym, ap, ◌∙◌}
+use Rattle.std.proofs.Common.{[], ◌∷◌, ◌++◌, ◌∙◌}
 use Rattle.plant_desk.specs.declared.deed.Deed.TheVariants.{Rolled}
 use Rattle.plant_desk.specs.Rule.{told}
 use Rattle.plant_desk.proofs.Passes.{has_rolled}
-use Rattle.plant_desk.proofs.Fields.{stays, hand_of, is_pass, twice, rolls_over, refuses_roll}
+use Rattle.plant_desk.specs.Kept.{hand_of}
+use Rattle.plant_desk.proofs.Fields.{rolls_same, looks_same, is_pass, twice, rolls_over, refuses_roll}
 use Rattle.plant_desk.proofs.desk.PlantDesk.roll.Goals as goal
 
 pub give_rolled-requires-clause-holds : goal.give_rolled-requires-clause-holds
@@ -42,7 +43,7 @@ returns-in-Err-clause-refused g c =
     (c.give_back.ensures.given (told (hand_of c.pass.inside) out.between) out.holds) c.in-Err.ensures.refused
 
 pub returns-in-Ok-clause-same : goal.returns-in-Ok-clause-same
-returns-in-Ok-clause-same g c = stays c.pass.inside _ c.give_rolled.new.place c.pass.view_is (c.give_rolled.ensures.same ∙ c.take_turn-plant.ensures.same)
+returns-in-Ok-clause-same g c = rolls_same _ _ _ (returns-in-Ok-clause-ended g c)
 
 pub returns-in-Err-clause-same : goal.returns-in-Err-clause-same
-returns-in-Err-clause-same g c = stays c.pass.inside _ c.give_back.new.place c.pass.view_is (c.give_back.ensures.same ∙ c.take_turn-plant.ensures.same)
+returns-in-Err-clause-same g c = looks_same _ _ (returns-in-Err-clause-refused g c).looks

@@ -1,0 +1,165 @@
+-- What the desk of a pass meant, and the tests that were passed, once the pass has seen more.
+use Rattle.std.proofs.Common.{◌≡◌, ℕ, ◌+◌, ◌<◌, ◌≤◌, cond, eqb, Bool, true, false, List, [], ◌∷◌, ◌++◌, length, take, drop, sym, ap, subst, ◌∙◌, ⊎_elim, append_assoc, length-append, arith}
+use Rattle.std.specs.Prelude.{All, Contains}
+use Rattle.std.proofs.lemmas.List.{append-nil, take-append-le, drop-append-le}
+use Rattle.std.proofs.lemmas.List.Elements.{All-nil, All-cons, All-append, All-weaker, Contains-append_left, Contains-push, Contains-push_cases}
+use Rattle.plant_book.specs.declared.book.Entry.{Entry}
+use Rattle.plant_book.specs.Book.{BookRecord}
+use Rattle.plant_book.specs.Answered.{with_entries}
+use Rattle.plant_book.specs.Part.{PartRecord}
+use Rattle.plant_book.specs.Life.{Life, entries_of, joined_book}
+use Rattle.plant_ledger.specs.Plant.{with_one}
+use Rattle.ledger_desk.specs.Desk.{GoalsLast, RollsLast, LivesLast}
+use Rattle.ledger_desk.specs.Plain.{IsGoalOf}
+use Rattle.plant_desk.specs.declared.deed.Deed.{Deed}
+use Rattle.plant_desk.specs.declared.deed.Deed.TheVariants.{Entered, Rolled}
+use Rattle.plant_desk.specs.Deeds.{first_life, life_after, life_of, Placed, entries_by}
+use Rattle.plant_desk.specs.Deeds as lives
+use Rattle.plant_desk.specs.Passes.{PassRecord, seen_book, first_place, after, entries}
+use Rattle.plant_desk.specs.DeskOf.{front, first_entries, MayTell, books_of, WasFull, Ended, WasFullLife, identity}
+use Rattle.plant_desk.proofs.Lives.{life_after-append, entries_of-push, front-le}
+use Rattle.plant_desk.proofs.Passes.{calls_in, front-calls_in, entries_by-append}
+
+-- the entries among deeds
+abbrev entries_in : List Deed → List Entry
+entries_in [] = []
+entries_in (Entered by entry ∷ deeds) = entry ∷ entries_in deeds
+entries_in (Rolled by ∷ deeds) = entries_in deeds
+
+-- the joined book goes on with them
+joined-after : (life : Life) (deeds : List Deed) → joined_book (life_after life deeds) ≡ with_entries (joined_book life) ((joined_book life).entries ++ entries_in deeds)
+joined-after life [] = ap (with_entries (joined_book life)) (sym (append-nil (joined_book life).entries))
+joined-after life (Entered by entry ∷ deeds) =
+    let book = joined_book life in
+    joined-after (lives.after life (Entered by entry)) deeds
+    ∙ ap (λ (es : List Entry). with_entries book (es ++ entries_in deeds)) (sym (append_assoc (entries_of life.ended) life.last.entries (entry ∷ [])))
+    ∙ ap (with_entries book) (append_assoc book.entries (entry ∷ []) (entries_in deeds))
+joined-after life (Rolled by ∷ deeds) =
+    joined-after (lives.after life (Rolled by)) deeds
+    ∙ ap (λ (es : List Entry). with_entries (joined_book life) (es ++ entries_in deeds)) (append-nil (entries_of (life.ended ++ life.last ∷ [])) ∙ entries_of-push life.ended life.last)
+
+-- the places of a pass's entries are those from the first on, below the front
+one_more : {A : Type 0} (P : A → Type 0) (b : Bool) (x : A) (xs : List A) → P x → All P xs → All P (cond b (x ∷ xs) xs)
+one_more P true x xs here rest = All-cons P x xs here rest
+one_more P false x xs here rest = rest
+
+places-from : (number place : ℕ) (deeds : List Deed) → All (λ (p : Placed). place ≤ p.place) (entries_by number place deeds)
+places-from number place [] = All-nil (λ (p : Placed). place ≤ p.place)
+places-from number place (Entered by entry ∷ deeds) =
+    let P : Placed → Type 0 = λ p. place ≤ p.place in
+    one_more P (eqb by number) (record { place = place; entry = entry }) (entries_by number (place + 1) deeds) (omega arith)
+    (All-weaker (λ (p : Placed). place + 1 ≤ p.place) P (λ p le. omega arith) (entries_by number (place + 1) deeds) (places-from number (place + 1) deeds))
+places-from number place (Rolled by ∷ deeds) = places-from number place deeds
+
+pub places-below : (number place : ℕ) (deeds : List Deed) → All (λ (p : Placed). p.place < place + calls_in deeds) (entries_by number place deeds)
+places-below number place [] = All-nil (λ (p : Placed). p.place < place + 0)
+places-below number place (Entered by entry ∷ deeds) =
+    let P : Placed → Type 0 = λ p. p.place < place + (calls_in deeds + 1) in
+    one_more P (eqb by number) (record { place = place; entry = entry }) (entries_by number (place + 1) deeds) (omega arith)
+    (All-weaker (λ (p : Placed). p.place < place + 1 + calls_in deeds) P (λ p lt. omega arith) (entries_by number (place + 1) deeds) (places-below number (place + 1) deeds))
+places-below number place (Rolled by ∷ deeds) = places-below number place deeds
+
+-- a book that has its room has it in what the life goes on to
+abbrev HasFull : ℕ → Life → Type 0
+HasFull room life = (book : PartRecord) × Contains (books_of life) book × (room ≤ length book.entries)
+
+full-entered : (room by : ℕ) (entry : Entry) (life : Life) → HasFull room life → HasFull room (lives.after life (Entered by entry))
+full-entered room by entry life (book, there, full) =
+    let grown = with_one life.last entry in
+    ⊎_elim
+    (λ (one : Contains life.ended book). (book, Contains-append_left life.ended (grown ∷ []) book one, full))
+    (λ (last : life.last ≡ book). (
+      grown,
+      Contains-push life.ended grown,
+      omega (arith, full, ap (λ (p : PartRecord). length p.entries) last, length-append life.last.entries (entry ∷ [])),
+    ))
+    (Contains-push_cases life.ended life.last book there)
+
+full-after : (room : ℕ) (life : Life) (deeds : List Deed) → HasFull room life → HasFull room (life_after life deeds)
+full-after room life [] full = full
+full-after room life (Entered by entry ∷ deeds) full = full-after room (lives.after life (Entered by entry)) deeds (full-entered room by entry life full)
+full-after room life (Rolled by ∷ deeds) full =
+    let rolled = lives.after life (Rolled by) in
+    full-after room rolled deeds (full.0, Contains-append_left rolled.ended (rolled.last ∷ []) full.0 full.1, full.2)
+
+module _ (old : PassRecord) (more : List Deed) where
+  abbrev new : PassRecord
+  new = after old more
+
+  book_later : seen_book new ≡ with_entries (seen_book old) ((seen_book old).entries ++ entries_in more)
+  book_later = ap joined_book (life_after-append (first_life old.desk.book) old.seen more) ∙ joined-after (life_of old.desk.book old.seen) more
+
+  front_later : front old ≤ front new
+  front_later = front-le old.desk.book old.seen more
+
+  first_same : (place : ℕ) → place ≤ front old → first_entries new place ≡ first_entries old place
+  first_same place le =
+      let book = seen_book old in
+      ap (λ (b : BookRecord). with_entries b (take place b.entries)) book_later
+      ∙ ap (with_entries book) (take-append-le place book.entries (entries_in more) le)
+
+  abbrev fresh : List Placed
+  fresh = entries_by old.number (first_place old.desk + calls_in old.seen) more
+
+  entries_later : entries new ≡ entries old ++ fresh
+  entries_later = entries_by-append old.number (first_place old.desk) old.seen more
+
+  goals_after : GoalsLast (MayTell old) (MayTell new)
+  goals_after made place inverter goal was =
+      let Held : Placed → Type 0 = λ p. p.place < place in
+      let Later : Placed → Type 0 = λ p. place ≤ p.place in
+      let start = first_place old.desk + calls_in old.seen in
+      let from : place ≤ start = omega (arith, was.within, front-calls_in old.desk.book old.seen) in
+      let of_fresh : All Later fresh = All-weaker (λ (p : Placed). start ≤ p.place) Later (λ p le. omega (arith, from, le)) fresh (places-from old.number start more) in
+      record {
+        counted = omega (arith, was.counted, ap (λ (es : List Placed). length es) entries_later, length-append (entries old) fresh);
+        begun = was.begun;
+        within = omega (arith, was.within, front_later);
+        held = subst (All Held) (sym (ap (take made) entries_later ∙ take-append-le made (entries old) fresh was.counted)) was.held;
+        none_later = subst (All Later) (sym (ap (drop made) entries_later ∙ drop-append-le made (entries old) fresh was.counted))
+            (All-append Later (drop made (entries old)) fresh was.none_later of_fresh);
+        told = subst (λ (b : BookRecord). IsGoalOf b inverter goal) (sym (first_same place was.within)) was.told;
+      }
+
+  full_after : WasFull old → WasFull new
+  full_after was =
+      let room = old.desk.book.site.room in
+      let found = subst (HasFull room) (sym (life_after-append (first_life old.desk.book) old.seen more))
+      (full-after room (life_of old.desk.book old.seen) more (was.book, was.there, was.full)) in
+      record { book = found.0; there = found.1; full = found.2 }
+
+  rolls_after : RollsLast (Ended old) (Ended new)
+  rolls_after number book was = record {
+    before = was.before;
+    behind = was.behind ++ more;
+    seen = ap (λ (ds : List Deed). ds ++ more) was.seen ∙ append_assoc was.before (Rolled old.number ∷ was.behind) more;
+    counted = was.counted;
+    it = was.it;
+  }
+
+  lives_after : LivesLast (WasFullLife old) (WasFullLife new)
+  lives_after calls was = (omega (arith, was.0, front_later), was.1)
+
+-- a pass that has seen more
+pub record IsLater (old new : PassRecord) : Type 0 where
+  pub more : List Deed
+  pub seen : new ≡ after old more
+
+module _ (old new : PassRecord) (later : IsLater old new) where
+  pub front_lasts : front old ≤ front new
+  front_lasts = subst (λ (p : PassRecord). front old ≤ front p) (sym later.seen) (front_later old later.more)
+
+  pub goals_last : GoalsLast (MayTell old) (MayTell new)
+  goals_last = subst (λ (p : PassRecord). GoalsLast (MayTell old) (MayTell p)) (sym later.seen) (goals_after old later.more)
+
+  pub full_lasts : WasFull old → WasFull new
+  full_lasts = subst (λ (p : PassRecord). WasFull old → WasFull p) (sym later.seen) (full_after old later.more)
+
+  pub rolls_last : RollsLast (Ended old) (Ended new)
+  rolls_last = subst (λ (p : PassRecord). RollsLast (Ended old) (Ended p)) (sym later.seen) (rolls_after old later.more)
+
+  pub lives_last : LivesLast (WasFullLife old) (WasFullLife new)
+  lives_last = subst (λ (p : PassRecord). LivesLast (WasFullLife old) (WasFullLife p)) (sym later.seen) (lives_after old later.more)
+
+  pub kept_lasts : identity new ≡ identity old
+  kept_lasts = ap identity later.seen
