@@ -4,3 +4,14 @@ pub mod Ready
 pub mod Ranges
 pub mod Running
 pub mod Peak
+pub mod Longer
+pub mod Doing
+pub mod Queue
+pub mod Moves
+pub mod Follows
+pub mod Acting
+pub mod Calling
+pub mod Plants
+pub mod Happenings
+pub mod Restarting
+pub mod Devices

@@ -8,3 +8,4 @@ pub mod Ready
 pub mod Summary
 pub mod Peak
 pub mod Text
+pub mod Devices

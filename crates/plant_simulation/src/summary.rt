@@ -30,7 +30,10 @@ pub fn simulate(alloc: Global, seed: u64, inverters: u32, steps: u32) -> Result<
     requires few { inverters ≤ 64 }
     requires steps_low { 1 ≤ steps }
     requires steps_high { steps ≤ 1000000 }
-    ensures { IfOk result (λ summary. summary ≡ summary_of seed inverters steps) }
+    ensures summary { IfOk result (λ summary. summary ≡ summary_of seed inverters steps) }
+
+    // As each inverter follows the timed device, all of them together never held more than the cap.
+    ensures under_the_cap { IfOk result (λ summary. summary.peak ≤ summary.cap) }
 {
     let mut simulation = Simulation::begin(alloc, seed, inverters)?;
     let mut peak = simulation.held();

@@ -3,6 +3,7 @@ use Rattle.plant_simulation.specs.World.{World, held_in}
 use Rattle.plant_simulation.specs.Step.{stepped}
 use Rattle.plant_simulation.specs.Ready.{IsReady}
 use Rattle.plant_simulation.proofs.Running.{step_ready, plant_first, plant_more, peak_first, peak_more}
+use Rattle.plant_simulation.proofs.Devices.{peak_under}
 use Rattle.plant_simulation.proofs.summary.simulate.Goals as goal
 
 pub held-peak-requires : goal.held-peak-requires
@@ -56,3 +57,12 @@ loop-step-preserved c =
             peak_more c.args.seed c.args.inverters c.loop-step._step,
           );
     }
+
+pub returns-clause-under_the_cap : goal.returns-clause-under_the_cap
+returns-clause-under_the_cap c =
+    omega (
+      arith,
+      c.loop-step.invariant.peak,
+      c.from.ensures,
+      peak_under c.args.seed c.args.inverters c.requires.some c.requires.few c.loop-step._step (omega (arith, c.loop-step.auto._step-end, c.requires.steps_high)),
+    )
