@@ -1,7 +1,7 @@
 ghost use Rattle.std.specs.Prelude.{◌≡◌, ◌⊎◌, IfErr};
 ghost use Rattle.std.specs.declared.io.ErrorKind.TheVariants as kinds;
 
-use crate::ended::Ended;
+use exporter_commands::Ended;
 use std::io::ErrorKind;
 use std::{env, io};
 

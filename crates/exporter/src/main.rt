@@ -1,33 +1,17 @@
 //! The program: a script of calls goes in, and the text of its lives with the reply to each call comes out.
 //!
-//! `plain` does all that the program does, over any input and output; its contract says what. `main` hands it
-//! the words of the command line, standard input and standard output.
+//! `plain` and `live` of `exporter_commands` do all that the program does; their contracts say what. `main` hands them
+//! the words of the command line, the standard streams, the site file, TCP connections and the clock.
 #![tactic(auto)]
 
 mod adapters;
-mod check;
 mod command_line;
-mod commission;
-mod ended;
-mod fault_text;
-mod finding;
-mod input;
-mod live;
-mod live_fault;
-mod output;
-mod plain;
 mod real;
-mod replay;
-mod serve;
-mod site;
-mod words;
 
 use crate::adapters::{BootClock, Calling, Listening, Opened, Opener, TcpDialer};
 use crate::command_line::words;
-use crate::ended::{Ended, status};
-use crate::live::live;
-use crate::plain::plain;
 use crate::real::{Input, Output};
+use exporter_commands::{Ended, live, plain, status};
 use std::process::ExitCode;
 use world_traits::Clock;
 

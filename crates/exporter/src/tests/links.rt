@@ -1,0 +1,155 @@
+//! `live` over links in memory.
+ghost use Rattle.std.specs.Prelude.{◌≡◌, IfOk};
+
+use super::words;
+use exporter_commands::{Ended, LiveFault, live};
+use inverter_sim::Bank;
+use limiter_num::{Rating, Rules};
+use plant_book::Unit;
+use plant_simulator::DeviceDialer;
+use std::alloc::Global;
+use std::process::Abort;
+use std::test::Fail;
+use world_traits::{BytesSink, BytesSource, Dialer, Link, Move, PlayDialer, PlayLink, StepClock};
+
+/// A site of one inverter.
+const SITE: &str = "cap = 10000000
+send = 1000
+delay = 4000
+timer = 60
+per_mille = 20
+slack = 500
+renew = 20000
+pause = 1000
+wait = 2000
+book = 2000
+policy = \"open\"
+[[inverter]]
+host = \"plant\"
+port = 5020
+unit = 1
+base = 40296
+wmax = 6000
+wsf = 0
+psf = -1
+floor = 100
+";
+
+/// What commissioning it writes.
+const COMMISSIONED: &str = "found base 40296 wmax 6000 wsf 0 psf -1
+commissioned 0
+";
+
+/// The first request of a commissioning: it reads the mark of the register map.
+const FIRST_READ: [u8; 12] = [0, 1, 0, 0, 0, 6, 1, 3, 0x9C, 0x40, 0, 2];
+
+/// Its reply.
+const FIRST_REPLY: [u8; 13] = [0, 1, 0, 0, 0, 7, 1, 3, 4, 0x53, 0x75, 0x6E, 0x53];
+
+/// The site file.
+fn site(alloc: Global) -> Result<BytesSource, Fail> {
+    let text = Vec::from_slice(alloc, SITE.as_bytes())?;
+    Ok(BytesSource::new(text, Vec::new(alloc)))
+}
+
+/// How `live` ends with these words and 64 dialers, and what it writes.
+fn run<N: Dialer + Send>(
+    rt: &impl Abort,
+    alloc: Global,
+    line: &str,
+    dialers: &mut Vec<N>,
+) -> Result<(Ended, BytesSink), Fail> {
+    assert!(rt; dialers.len() == 64);
+    let words = words(alloc, line)?;
+    let mut site = site(alloc)?;
+    let mut console = BytesSource::new(Vec::new(alloc), Vec::new(alloc));
+    let mut out = BytesSink::new(alloc, Vec::new(alloc));
+    let clock = StepClock::new(0, 1);
+    let ended = live(
+        alloc,
+        &words,
+        &mut site,
+        &mut console,
+        &mut out,
+        dialers,
+        &clock,
+    );
+    Ok((ended, out))
+}
+
+/// A simulation of the inverter.
+fn bank(rt: &impl Abort) -> Result<Bank, Fail>
+    ensures { IfOk result (λ bank. bank.last ≡ 0) }
+{
+    let rating = Rating::new(6_000, 0, -1).ok().ok_or("rating")?;
+    let unit = Unit::new(rating, 100).ok().ok_or("floor")?;
+    let rules = Rules::new(1_000, 4_000, 60, 20, 500).ok().ok_or("rules")?;
+    let after = rules.tmax();
+    assert!(rt; rules.tmin() <= after);
+    Ok(Bank::new(unit, rules, 1, after))
+}
+
+/// 64 dialers whose links reach a simulation of the inverter.
+fn devices<'c>(
+    rt: &impl Abort,
+    alloc: Global,
+    clock: &'c StepClock,
+) -> Result<Vec<DeviceDialer<'c, StepClock>>, Fail> {
+    let mut dialers = Vec::new(alloc);
+    for _ in 0..64 {
+        let bank = bank(rt)?;
+        dialers.push(DeviceDialer::new(alloc, bank, clock, Vec::new(alloc)))?;
+    }
+    Ok(dialers)
+}
+
+/// 64 dialers, of which the first has one link, which takes so many bytes and plays this move.
+fn players(alloc: Global, takes: u32, played: Move) -> Result<Vec<PlayDialer>, Fail> {
+    let moves = vec![in alloc; played]?;
+    let links = vec![in alloc; PlayLink { takes, moves }]?;
+    let mut dialers = vec![in alloc; PlayDialer::new(alloc, links, Vec::new(alloc))]?;
+    for _ in 1..64 {
+        dialers.push(PlayDialer::new(alloc, Vec::new(alloc), Vec::new(alloc)))?;
+    }
+    Ok(dialers)
+}
+
+#[test]
+fn an_inverter_as_the_site_file_says_is_commissioned(rt: HostRuntime) -> Result<(), Fail> {
+    let clock = StepClock::new(0, 1);
+    let mut dialers = devices(&rt, rt.alloc(), &clock)?;
+    let (ended, out) = run(&rt, rt.alloc(), "commission 0", &mut dialers)?;
+    assert_eq!(rt; ended, Ended::Done);
+    assert_eq!(rt; out.taken(), COMMISSIONED.as_bytes());
+    Ok(())
+}
+
+#[test]
+fn a_link_that_takes_half_a_request(rt: HostRuntime) -> Result<(), Fail> {
+    let mut dialers = players(rt.alloc(), 5, Move::Quiet)?;
+    let (ended, out) = run(&rt, rt.alloc(), "commission 0", &mut dialers)?;
+    assert_eq!(rt; ended, Ended::Refused(LiveFault::Send));
+    assert!(rt; out.taken().is_empty());
+    Ok(())
+}
+
+/// Whether a link is the one of the first read: at the inverter's port, with the reply and two receives.
+fn is_answered(link: &Link) -> bool {
+    link.host() == "plant"
+        && link.port() == 5020
+        && link.sent() == FIRST_REPLY.as_slice()
+        && link.answers() == 2
+}
+
+#[test]
+fn a_served_inverter_answers_the_first_read(rt: HostRuntime) -> Result<(), Fail> {
+    let read = Move::Bytes(Vec::from_slice(rt.alloc(), &FIRST_READ)?);
+    let mut dialers = players(rt.alloc(), 100, read)?;
+    let (ended, out) = run(&rt, rt.alloc(), "serve 0 3", &mut dialers)?;
+    assert_eq!(rt; ended, Ended::Done);
+    assert!(rt; out.taken().is_empty());
+    let log = dialers.first().ok_or("the first dialer")?.log();
+    assert_eq!(rt; log.count(), 1);
+    assert!(rt; log.link(0).is_some_and(is_answered));
+    Ok(())
+}

@@ -1,0 +1,79 @@
+//! `live` in two threads of one process, over TCP on this machine.
+use super::words;
+use crate::adapters::{BootClock, Calling, Listening, Opener, TcpDialer};
+use exporter_commands::{Ended, LiveFault, live};
+use std::alloc::AllocError;
+use std::test::Fail;
+use std::thread;
+use world_traits::{BytesSink, BytesSource, Clock};
+
+/// A site of one inverter on this machine.
+const SITE: &str = "cap = 10000000
+send = 1000
+delay = 4000
+timer = 60
+per_mille = 20
+slack = 500
+renew = 20000
+pause = 10
+wait = 100
+book = 2000
+policy = \"open\"
+[[inverter]]
+host = \"127.0.0.1\"
+port = 15629
+unit = 1
+base = 40296
+wmax = 6000
+wsf = 0
+psf = -1
+floor = 100
+";
+
+/// How `live` ends with these words, where links come about in this way.
+fn run<C: Opener<Runtime = HostRuntime> + Send, K: Clock + Sync>(
+    rt: &HostRuntime,
+    clock: &K,
+    line: &str,
+) -> Result<Ended, AllocError> {
+    let alloc = rt.alloc();
+    let words = words(alloc, line)?;
+    let mut site = BytesSource::new(Vec::from_slice(alloc, SITE.as_bytes())?, Vec::new(alloc));
+    let mut console = BytesSource::new(Vec::new(alloc), Vec::new(alloc));
+    let mut out = BytesSink::new(alloc, Vec::new(alloc));
+    let mut dialers = TcpDialer::<C>::many(alloc, *rt, 64)?;
+    Ok(live(
+        alloc,
+        &words,
+        &mut site,
+        &mut console,
+        &mut out,
+        &mut dialers,
+        clock,
+    ))
+}
+
+/// How `commission` ends, once the inverter listens.
+fn commission<K: Clock + Sync>(rt: &HostRuntime, clock: &K) -> Result<Ended, AllocError> {
+    for _ in 0..100 {
+        let ended = run::<Calling<HostRuntime>, K>(rt, clock, "commission 0")?;
+        if ended != Ended::Refused(LiveFault::Dial) {
+            return Ok(ended);
+        }
+        clock.rest(20);
+    }
+    Ok(Ended::Refused(LiveFault::Dial))
+}
+
+#[test]
+fn an_inverter_that_is_served_is_commissioned(rt: HostRuntime) -> Result<(), Fail> {
+    let clock = BootClock::new(rt);
+    let (served, commissioned) = thread::join(
+        &rt,
+        || run::<Listening<HostRuntime>, BootClock<HostRuntime>>(&rt, &clock, "serve 0 40"),
+        || commission(&rt, &clock),
+    );
+    assert_eq!(rt; served?, Ended::Done);
+    assert_eq!(rt; commissioned?, Ended::Done);
+    Ok(())
+}

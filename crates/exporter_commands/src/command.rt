@@ -1,0 +1,93 @@
+ghost use Rattle.std.specs.Prelude.{◌≡◌, List, [], ◌∷◌, IfNone, IfSome, map};
+ghost use Rattle.std.specs.String.{string_bytes};
+ghost use Rattle.exporter_commands.specs.declared.command.Simulation.{Simulation};
+ghost use Rattle.exporter_commands.specs.Replay.{AreReplay};
+ghost use Rattle.exporter_commands.specs.Check.{AreCheck};
+ghost use Rattle.exporter_commands.specs.Simulate.{AreSimulate};
+ghost use Rattle.exporter_commands.specs.Command.{Asks};
+
+use crate::words::number_of;
+
+/// The greatest count of inverters of a simulation.
+const INVERTERS_MAX: u64 = 64;
+
+/// The greatest count of its steps.
+const STEPS_MAX: u64 = 1_000_000;
+
+/// A plant to be simulated.
+#[derive(Clone, Copy)]
+pub struct Simulation {
+    /// The seed from which all of it follows.
+    pub seed: u64,
+    /// How many inverters the plant has: 1 to 64.
+    pub inverters: u32,
+    /// How many steps it goes: 1 to 1,000,000.
+    pub steps: u32,
+}
+
+/// What is to be done with an input and an output.
+#[derive(Clone, Copy)]
+pub enum Command {
+    /// Replays a script.
+    Replay,
+    /// Checks a site file.
+    Check,
+    /// Simulates a plant.
+    Simulate(Simulation),
+}
+
+/// The command of one word.
+fn command_of_one(name: &str) -> Option<Command>
+    ensures some { IfSome result (Asks (name.now ∷ [])) }
+    ensures no_replay { IfNone result (AreReplay (name.now ∷ []) → ⊥) }
+    ensures no_check { IfNone result (AreCheck (name.now ∷ []) → ⊥) }
+{
+    match name {
+        "replay" => Some(Command::Replay),
+        "check" => Some(Command::Check),
+        _ => None,
+    }
+}
+
+/// The simulation of four words.
+fn simulation_of(name: &str, seed: &str, inverters: &str, steps: &str) -> Option<Simulation>
+    ensures some { IfSome result
+        (AreSimulate (name.now ∷ seed.now ∷ inverters.now ∷ steps.now ∷ [])) }
+    ensures none { IfNone result ((simulation : Simulation)
+        → AreSimulate (name.now ∷ seed.now ∷ inverters.now ∷ steps.now ∷ []) simulation → ⊥) }
+{
+    if name != "simulate" {
+        return None;
+    }
+    let seed = number_of(seed, 0, u64::MAX)?;
+    let inverters = number_of(inverters, 1, INVERTERS_MAX)?;
+    let steps = number_of(steps, 1, STEPS_MAX)?;
+    Some(Simulation {
+        seed,
+        inverters: inverters as u32,
+        steps: steps as u32,
+    })
+}
+
+/// The command that the words ask for.
+pub fn command_of(words: &Vec<String>) -> Option<Command>
+    ensures some { IfSome result (Asks (map string_bytes words.now.items)) }
+    ensures no_replay { IfNone result (AreReplay (map string_bytes words.now.items) → ⊥) }
+    ensures no_check { IfNone result (AreCheck (map string_bytes words.now.items) → ⊥) }
+    ensures no_simulation { IfNone result ((simulation : Simulation)
+        → AreSimulate (map string_bytes words.now.items) simulation → ⊥) }
+{
+    match words.as_slice() {
+        [name] => command_of_one(name.as_str()),
+        [name, seed, inverters, steps] => {
+            simulation_of(
+                name.as_str(),
+                seed.as_str(),
+                inverters.as_str(),
+                steps.as_str(),
+            )
+            .map(Command::Simulate)
+        }
+        _ => None,
+    }
+}
