@@ -151,7 +151,11 @@ fn a_write_of_other_registers_is_refused(rt: HostRuntime) -> Result<(), Fail> {
     let rows = [
         (0, write(40_309, &[1, 500, 100, 1, 0, 60]), refused(16, 2)),
         (0, write(40_310, &[1, 500, 100, 1, 0]), refused(16, 2)),
-        (0, write(40_310, &[1, 500, 100, 1, 0, 60, 0]), refused(16, 2)),
+        (
+            0,
+            write(40_310, &[1, 500, 100, 1, 0, 60, 0]),
+            refused(16, 2),
+        ),
         (0, READ_BACK, limit_shown(100, 0)),
     ];
     compare(&rt, &rows)
