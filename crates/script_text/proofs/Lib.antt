@@ -9,3 +9,5 @@ pub mod Once
 pub mod Back
 pub mod Count
 pub mod Reader
+pub mod Comments
+pub mod Books
