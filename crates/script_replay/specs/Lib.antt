@@ -1,3 +1,4 @@
 pub mod Chain
 pub mod Replay
 pub mod Playing
+pub mod Comments

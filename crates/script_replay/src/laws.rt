@@ -1,5 +1,9 @@
-ghost use Rattle.std.specs.Prelude.{◌≡◌, ◌⊎◌, ℕ, List, Option, None, Some};
+ghost use Rattle.std.specs.Prelude.{◌≡◌, ◌⊎◌, ◌≤◌, ℕ, List, ◌++◌, length, Option, None, Some};
+ghost use Rattle.plant_book.specs.Book.{BookRecord};
+ghost use Rattle.plant_book.specs.Answered.{IsBook};
+ghost use Rattle.script_text.specs.Text.{book_text};
 ghost use Rattle.script_replay.specs.declared.replay.ReplayFault.{ReplayFault};
+ghost use Rattle.script_replay.specs.Comments.{AreComments};
 ghost use Rattle.script_replay.specs.Replay.{IsReplay, HasRoom, Explains};
 
 /// A script has one replay, of one text, or one fault. The text of a replay, as a script, is replayed as itself.
@@ -20,4 +24,10 @@ pub fn room_is_enough()
         → fault ≡ ReplayFault.NoMemory }
     ensures not_full { (bytes : List ℕ) (calls : ℕ) (text : List ℕ) → HasRoom bytes
         → IsReplay bytes (Some calls) text → ⊥ }
+{}
+
+/// The text of a book that a ledger keeps, comments behind it or not, is replayed as that text.
+pub fn books_replay_as_themselves()
+    ensures { (book : BookRecord) (behind : List ℕ) → IsBook book → length book.entries ≤ book.site.room
+        → AreComments behind → IsReplay (book_text book ++ behind) None (book_text book) }
 {}
