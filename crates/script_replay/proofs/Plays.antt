@@ -1,33 +1,31 @@
 -- Deeds one behind the other, and what a line of a script may rely on.
-use Rattle.std.proofs.Common.{◌≡◌, ℕ, zero, suc, Bool, true, false, ◌+◌, ◌<◌, ◌≤◌, max, List, [], ◌∷◌, ◌++◌, length, map, take, drop, get_or, Option, Some, None, Result, Ok, Err, refl, sym, ap, subst, ◌∙◌, arith, append_assoc, length-append, add-one, drop-cons}
+use Rattle.std.proofs.Common.{◌≡◌, ℕ, suc, true, false, ◌+◌, ◌<◌, ◌≤◌, max, List, [], ◌∷◌, ◌++◌, length, map, take, drop, get_or, Option, Some, None, Result, Ok, Err, refl, sym, ap, subst, ◌∙◌, arith, append_assoc, length-append, drop-cons}
 use Rattle.std.specs.Prelude.{IfSome, MatchOption, OnOk, is_some}
 use Rattle.std.specs.List.{flat_map, AllByRecursion}
 use Rattle.std.proofs.lemmas.List.{append-nil, map_push, map-append, take_more, take-append-drop, take-append-le, flat_map_more, length-map, length-take, take_all}
-use Rattle.std.proofs.lemmas.List.Concat.{flat_map-append}
 use Rattle.plant_book.specs.declared.call.Call.{Call}
 use Rattle.plant_book.specs.declared.call.Call.TheVariants as calls
 use Rattle.plant_book.specs.declared.call.Reply.{Reply}
 use Rattle.plant_book.specs.declared.call.TheConstants.{MOMENT_MAX}
-use Rattle.plant_book.specs.declared.call.Write as writes
 use Rattle.plant_book.specs.declared.book.Entry.{Entry}
 use Rattle.plant_book.specs.Site.{SiteRecord, inverters}
 use Rattle.plant_book.specs.Book.{BookRecord}
 use Rattle.plant_book.specs.Calls.{moment, named, at_moment, latest, entered}
 use Rattle.plant_book.specs.Part.{PartRecord, CarryRecord, book_behind, book_before, begin_of, last_moment_of, calls_of}
-use Rattle.plant_book.specs.Answered.{IsBook, IsInRange, IsOpenable, with_entries}
+use Rattle.plant_book.specs.Answered.{IsBook, IsOpenable, with_entries}
 use Rattle.plant_book.specs.Answer.{reply_to}
 use Rattle.plant_book.specs.Reserved.{now_of}
 use Rattle.plant_book.specs.Carry.{IsBehind, carry_of}
-use Rattle.plant_book.specs.History.{History, lives, InTurn, first_start, Fits, IsHistory, life_after}
-use Rattle.plant_book.proofs.Growth.{empty_book, IsBook-empty}
+use Rattle.plant_book.specs.History.{lives, InTurn, Fits, IsHistory}
+use Rattle.plant_book.proofs.Growth.{IsBook-empty}
 use Rattle.plant_book.proofs.Steps.{latest-push}
 use Rattle.plant_book.proofs.Behind.{calls_of-is, last_moment_of-is}
-use Rattle.plant_book.proofs.Safe.{first_books, first_in_turn, first_start_is, life_is_history, no_past, safe_always}
+use Rattle.plant_book.proofs.Safe.{first_books, first_in_turn, life_is_history, no_past, safe_always}
 use Rattle.plant_ledger.specs.Plant as ledger
 use Rattle.script_text.specs.declared.line.Line.{Line}
 use Rattle.script_text.specs.declared.line.Line.TheVariants as lines
 use Rattle.script_text.specs.Grammar.{Statement, Begin, Says}
-use Rattle.script_text.specs.Script.{ScriptRecord, InRange, OfSite, InTime, MayFollow, EachMayFollow, inverters_in, latest_in, moment_on, last_of, site_statement, inverter_statement, head_statements, script_statements, IsScript}
+use Rattle.script_text.specs.Script.{ScriptRecord, MayFollow, EachMayFollow, moment_on, last_of, site_statement, inverter_statement, head_statements, script_statements, IsScript}
 use Rattle.script_text.specs.Text.{Deed, Entered, Begun, Rolled, deed_line, deed_text, head_text, lives_text}
 use Rattle.script_text.specs.declared.lines.Lines.{Lines}
 use Rattle.script_text.specs.declared.fault.ScriptFault.{ScriptFault}
@@ -40,7 +38,7 @@ use Rattle.std.proofs.Math.Seq.{get_or-append_seam, take-append_seam}
 use Rattle.script_text.proofs.Steps.{begun_on}
 use Rattle.script_text.proofs.Taken.{head_begun}
 use Rattle.script_replay.specs.Chain.{Chain, empty_life, first_chain, chain_after, chain_behind, IsDone, AreDone, history_of, IsSafeChain}
-use Rattle.script_replay.specs.Playing.{Stands, LineFits, Played, Does, FindsFull, Steps, Ends, IsFirstLife, script_with, IsReplayed, IsReplayedWhole, FaultExplained, NextLine, AreLast}
+use Rattle.script_replay.specs.Playing.{Stands, LineFits, Played, Does, FindsFull, Ends, IsFirstLife, script_with, IsReplayed, IsReplayedWhole, FaultExplained, NextLine, AreLast}
 use Rattle.script_replay.specs.declared.replay.ReplayFault.{ReplayFault}
 use Rattle.script_replay.specs.declared.replay.ReplayFault.TheVariants as faults
 use Rattle.script_replay.specs.Replay.{IsReplay, Explains, RefusesSite, fault_of}

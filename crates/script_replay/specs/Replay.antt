@@ -4,7 +4,6 @@ use Rattle.plant_book.specs.declared.call.Call.{Call}
 use Rattle.plant_book.specs.Site.{SiteRecord}
 use Rattle.plant_book.specs.Answered.{IsOpenable}
 use Rattle.plant_ledger.specs.declared.opening.OpenFault.{OpenFault}
-use Rattle.plant_ledger.specs.declared.opening.OpenFault.TheVariants as openings
 use Rattle.plant_ledger.specs.Opening.{open_fault}
 use Rattle.script_text.specs.declared.line.Line.{Line}
 use Rattle.script_text.specs.declared.line.Line.TheVariants as lines
@@ -14,7 +13,7 @@ use Rattle.script_text.specs.Script.{ScriptRecord, IsScript, IsFirstBadLine}
 use Rattle.script_text.specs.Text.{Deed, deed_line, lives_text}
 use Rattle.script_replay.specs.declared.replay.ReplayFault.{ReplayFault}
 use Rattle.script_replay.specs.declared.replay.ReplayFault.TheVariants as faults
-use Rattle.script_replay.specs.Chain.{Chain, first_chain, chain_behind, AreDone, IsSafeChain}
+use Rattle.script_replay.specs.Chain.{first_chain, chain_behind, AreDone, IsSafeChain}
 
 -- How far a script was replayed: to its end, or up to the first call line that found its book at its room, which
 -- is as many calls.
