@@ -60,8 +60,8 @@ attempt_in job output came = []
 abbrev pub attempts : Job → List Act → List Attempt
 attempts job done = flat_map (λ act. attempt_in job act.output act.came) done
 
--- These bytes were sent: each frame, in order. Only the last may be cut short, down to nothing, where its send
--- failed.
+-- These bytes were sent: each frame, in order. Only the last may be cut short, down to nothing, where its
+-- send failed.
 abbrev pub HaveSent : List Attempt → List ℕ → Type 0
 HaveSent [] bytes = bytes ≡ []
 HaveSent (Whole frame ∷ later) bytes =
@@ -91,9 +91,9 @@ answers link = map (λ receipt. receipt.answer) link.receipts
 abbrev pub piece_answers : List (List ℕ) → List Answer
 piece_answers pieces = map Bytes pieces
 
--- How the waits of a link end, with the answers that gave no bytes and the bytes that were never handed out: all gave
--- frames; or what came is no frame, and a fault stands first in those bytes; or a receive gave none while they were
--- less than a frame. Such a wait is the last.
+-- How the waits of a link end, with the answers that gave no bytes and the bytes that were never handed out:
+-- all gave frames; or what came is no frame, and a fault stands first in those bytes; or a receive gave none
+-- while they were less than a frame. Such a wait is the last.
 abbrev pub EndsWith : List Input → List Answer → (unread : List ℕ) → Type 0
 EndsWith [] [] unread = Unit {0}
 EndsWith (input.BadFrame ∷ []) [] unread = (fault : FrameFault) × HasFault unread fault
@@ -102,9 +102,10 @@ EndsWith (input.Closed ∷ []) (Closed ∷ []) unread = IsUnfinished unread
 EndsWith (input.RecvFailed ∷ []) (Failed ∷ []) unread = IsUnfinished unread
 EndsWith _ _ unread = ⊥
 
--- A link agrees with the acts on it. It was dialed where the job says, and the bytes sent on it are the frames of the
--- requests. The waits gave frames, and then such an end; the receives answered pieces of bytes, and then the same end.
--- The bytes of the pieces are those of the frames, in order, and then those never handed out.
+-- A link agrees with the acts on it. It was dialed where the job says, and the bytes sent on it are the
+-- frames of the requests. The waits gave frames, and then such an end; the receives answered pieces of bytes,
+-- and then the same end. The bytes of the pieces are those of the frames, in order, and then those never
+-- handed out.
 pub record AgreesWith (job : Job) (done : List Act) (link : Link) : Type 0 where
   pub host : link.host ≡ job.port.host
   pub port : link.port ≡ job.port.port
@@ -126,9 +127,10 @@ AgreesEach job [] [] = Unit {0}
 AgreesEach job (done ∷ others) (link ∷ links) = AgreesWith job done link × AgreesEach job others links
 AgreesEach job _ _ = ⊥
 
--- The links now are those before, and behind them one for each dial that worked, which agrees with the acts on it.
--- Before the first of these nothing was sent or received.
-pub record HaveLinks (job : Job) (done : List Act) (before : Links) (links_now : Option Links) : Type 0 where
+-- The links now are those before, and behind them one for each dial that worked, which agrees with the acts
+-- on it. Before the first of these nothing was sent or received.
+pub record NewLinksAgree (job : Job) (done : List Act) (before : Links) (links_now : Option Links)
+    : Type 0 where
   pub after : Links
   pub told : links_now ≡ Some after
   pub nothing_before : AllByRecursion (λ act. IsNoTransfer act.output) (before_links done)
@@ -139,4 +141,4 @@ pub record HaveLinks (job : Job) (done : List Act) (before : Links) (links_now :
 -- a run agrees with the links of its dialer, where these are told
 abbrev pub LinksAgree : Job → List RunStep → (links links_now : Option Links) → Type 0
 LinksAgree job run links links_now = (before : Links) → links ≡ Some before
-    → HaveLinks job (acts output.Nothing run) before links_now
+    → NewLinksAgree job (acts output.Nothing run) before links_now
