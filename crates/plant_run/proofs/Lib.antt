@@ -6,3 +6,6 @@ pub mod Joining
 pub mod Seats
 pub mod Rounds
 pub mod Whole
+pub mod Standing
+pub mod Going
+pub mod Linking

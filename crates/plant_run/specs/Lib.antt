@@ -2,3 +2,4 @@ pub mod Own
 pub mod Works
 pub mod Running
 pub mod Rounds
+pub mod Agreement

@@ -1,0 +1,144 @@
+-- What a whole run of a worker has to do with the links of its dialer, link by link.
+use Rattle.std.specs.Prelude.{◌≡◌, ℕ, ◌<◌, Bool, true, false, List, [], ◌∷◌, ◌++◌, Option, Some, length, map, take, if◌then◌else◌}
+use Rattle.std.specs.List.{AllByRecursion, concat, flat_map}
+use Rattle.world_traits.specs.Links.{Answer, Bytes, Quiet, Closed, Failed, Link, Links, all_links}
+use Rattle.mbap_frames.specs.declared.frame.Frame.{Frame}
+use Rattle.mbap_frames.specs.declared.frame.FrameFault.{FrameFault}
+use Rattle.mbap_frames.specs.Frame.{IsFrame, frame_spelling}
+use Rattle.mbap_frames.specs.Stream.{IsUnfinished, HasFault, frames_spelling}
+use Rattle.inverter_worker.specs.declared.job.Job.{Job}
+use Rattle.inverter_worker.specs.declared.input.Input.{Input}
+use Rattle.inverter_worker.specs.declared.input.Input.TheVariants as input
+use Rattle.inverter_worker.specs.declared.output.Output.{Output}
+use Rattle.inverter_worker.specs.declared.output.Output.TheVariants as output
+use Rattle.inverter_worker.specs.Runs.{RunStep}
+use Rattle.worker_turn.specs.Doing.{request_frame}
+
+-- an output that was done, with the input that came of it
+pub record Act : Type 0 where
+  pub output : Output
+  pub came : Input
+
+-- the acts of a run, in order: of its first output, and of its steps
+abbrev pub acts : Output → List RunStep → List Act
+acts output [] = []
+acts output (next ∷ later) = record { output = output; came = next.input } ∷ acts next.output later
+
+-- whether an input says that a link was dialed
+abbrev pub is_dialed : Input → Bool
+is_dialed input.Dialed = true
+is_dialed came = false
+
+-- the acts before the first dial that worked
+abbrev pub before_links : List Act → List Act
+before_links [] = []
+before_links (act ∷ later) = if is_dialed act.came then [] else act ∷ before_links later
+
+-- the acts on each link, in order: those behind each dial that worked, up to the next that did
+abbrev pub on_links : List Act → List (List Act)
+on_links [] = []
+on_links (act ∷ later) = if is_dialed act.came then before_links later ∷ on_links later else on_links later
+
+-- an output that has nothing to do with the bytes of a link
+abbrev pub IsNoTransfer : Output → Type 0
+IsNoTransfer (output.Send request clock) = ⊥
+IsNoTransfer output.Receive = ⊥
+IsNoTransfer output = Unit {0}
+
+-- a frame that was to be sent: it went out whole, or its send failed
+pub data Attempt : Type 0 where
+  Whole : Frame → Attempt
+  CutShort : Frame → Attempt
+
+-- the frame of a request that was to be sent
+abbrev pub attempt_in : Job → Output → Input → List Attempt
+attempt_in job (output.Send request clock) input.SentAll = Whole (request_frame job request) ∷ []
+attempt_in job (output.Send request clock) input.SendFailed = CutShort (request_frame job request) ∷ []
+attempt_in job output came = []
+
+-- the frames of all requests that were to be sent, in order
+abbrev pub attempts : Job → List Act → List Attempt
+attempts job done = flat_map (λ act. attempt_in job act.output act.came) done
+
+-- These bytes were sent: each frame, in order. Only the last may be cut short, down to nothing, where its
+-- send failed.
+abbrev pub HaveSent : List Attempt → List ℕ → Type 0
+HaveSent [] bytes = bytes ≡ []
+HaveSent (Whole frame ∷ later) bytes =
+    (others : List ℕ) × (bytes ≡ frame_spelling frame ++ others) × HaveSent later others
+HaveSent (CutShort frame ∷ []) bytes =
+    (count : ℕ) × (count < length (frame_spelling frame)) × (bytes ≡ take count (frame_spelling frame))
+HaveSent (CutShort frame ∷ another ∷ later) bytes = ⊥
+
+-- what came of a wait for a frame
+abbrev pub arrival_in : Output → Input → List Input
+arrival_in output.Receive came = came ∷ []
+arrival_in output came = []
+
+-- what came of all waits for a frame, in order
+abbrev pub arrivals : List Act → List Input
+arrivals done = flat_map (λ act. arrival_in act.output act.came) done
+
+-- the inputs of these frames
+abbrev pub frame_inputs : List Frame → List Input
+frame_inputs frames = map (λ frame. input.Frame frame) frames
+
+-- what the receives of a link answered, in order
+abbrev pub answers : Link → List Answer
+answers link = map (λ receipt. receipt.answer) link.receipts
+
+-- the answers that gave these pieces of bytes
+abbrev pub piece_answers : List (List ℕ) → List Answer
+piece_answers pieces = map Bytes pieces
+
+-- How the waits of a link end, with the answers that gave no bytes and the bytes that were never handed out:
+-- all gave frames; or what came is no frame, and a fault stands first in those bytes; or a receive gave none
+-- while they were less than a frame. Such a wait is the last.
+abbrev pub EndsWith : List Input → List Answer → (unread : List ℕ) → Type 0
+EndsWith [] [] unread = Unit {0}
+EndsWith (input.BadFrame ∷ []) [] unread = (fault : FrameFault) × HasFault unread fault
+EndsWith (input.Quiet ∷ []) (Quiet ∷ []) unread = IsUnfinished unread
+EndsWith (input.Closed ∷ []) (Closed ∷ []) unread = IsUnfinished unread
+EndsWith (input.RecvFailed ∷ []) (Failed ∷ []) unread = IsUnfinished unread
+EndsWith _ _ unread = ⊥
+
+-- A link agrees with the acts on it. It was dialed where the job says, and the bytes sent on it are the
+-- frames of the requests. The waits gave frames, and then such an end; the receives answered pieces of bytes,
+-- and then the same end. The bytes of the pieces are those of the frames, in order, and then those never
+-- handed out.
+pub record AgreesWith (job : Job) (done : List Act) (link : Link) : Type 0 where
+  pub host : link.host ≡ job.port.host
+  pub port : link.port ≡ job.port.port
+  pub sent : HaveSent (attempts job done) link.sent
+  pub frames : List Frame
+  pub end : List Input
+  pub waits : arrivals done ≡ frame_inputs frames ++ end
+  pub each : AllByRecursion IsFrame frames
+  pub pieces : List (List ℕ)
+  pub silence : List Answer
+  pub receives : answers link ≡ piece_answers pieces ++ silence
+  pub unread : List ℕ
+  pub bytes : concat pieces ≡ frames_spelling frames ++ unread
+  pub ends : EndsWith end silence unread
+
+-- each link agrees with the acts on it, and there are as many links as parts of the acts
+abbrev pub AgreesEach : Job → List (List Act) → List Link → Type 0
+AgreesEach job [] [] = Unit {0}
+AgreesEach job (done ∷ others) (link ∷ links) = AgreesWith job done link × AgreesEach job others links
+AgreesEach job _ _ = ⊥
+
+-- The links now are those before, and behind them one for each dial that worked, which agrees with the acts
+-- on it. Before the first of these nothing was sent or received.
+pub record NewLinksAgree (job : Job) (done : List Act) (before : Links) (links_now : Option Links)
+    : Type 0 where
+  pub after : Links
+  pub told : links_now ≡ Some after
+  pub nothing_before : AllByRecursion (λ act. IsNoTransfer act.output) (before_links done)
+  pub made : List Link
+  pub all : all_links after ≡ all_links before ++ made
+  pub agree : AgreesEach job (on_links done) made
+
+-- a run agrees with the links of its dialer, where these are told
+abbrev pub LinksAgree : Job → List RunStep → (links links_now : Option Links) → Type 0
+LinksAgree job run links links_now = (before : Links) → links ≡ Some before
+    → NewLinksAgree job (acts output.Nothing run) before links_now
