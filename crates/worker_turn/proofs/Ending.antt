@@ -29,6 +29,7 @@ use Rattle.inverter_worker.specs.Runs.{RunStep, LeadsTo}
 use Rattle.worker_turn.specs.Turning.{pending}
 use Rattle.worker_turn.specs.Requests.{IsStep, numbering, request_number, IsPassedOver, Awaits}
 use Rattle.worker_turn.specs.Sights.{IsSeen}
+use Rattle.worker_turn.proofs.Going.{all_push}
 
 -- a run so far ends with the reply that numbers a request
 pub record IsNumbered (request : Asked) (sofar : List RunStep) : Type 0 where
@@ -80,11 +81,7 @@ with_step sofar state came put = sofar ++ record { state = state; input = came; 
 push : (before : List RunStep) (tail sofar : List RunStep) (one : RunStep) → sofar ≡ before ++ tail → sofar ++ one ∷ [] ≡ before ++ (tail ++ one ∷ [])
 push before tail sofar one is = ap (λ (t : List RunStep). t ++ one ∷ []) is ∙ append_assoc before tail (one ∷ [])
 
-pub all_push : (P : RunStep → Type 0) (later : List RunStep) (one : RunStep) → AllByRecursion P later → P one → AllByRecursion P (later ++ one ∷ [])
-all_push P [] one all here = (here, tt)
-all_push P (first ∷ later) one all here = (all.0, all_push P later one all.1 here)
-
--- no more than a read's frames are judged by their number
+-- what a frame is judged to be, other than of another number
 abbrev pub IsOfNumber : Judged → Type 0
 IsOfNumber (WrongNumber number) = ⊥
 IsOfNumber judged = Unit {0}

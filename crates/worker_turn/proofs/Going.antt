@@ -131,11 +131,11 @@ moves job output came old new done = absurd done
 pub answers : (job : Job) (output : Output) (came : Input) (old new : World) → IsDone job output came old new → IsAnswerTo output came
 answers job output came old new done = (moves job output came old new done).answers
 
-all_push : (P : RunStep → Type 0) (later : List RunStep) (one : RunStep) → AllByRecursion P later → P one → AllByRecursion P (later ++ one ∷ [])
+pub all_push : (P : RunStep → Type 0) (later : List RunStep) (one : RunStep) → AllByRecursion P later → P one → AllByRecursion P (later ++ one ∷ [])
 all_push P [] one all here = (here, tt)
 all_push P (first ∷ later) one all here = (all.0, all_push P later one all.1 here)
 
-all_map : (P Q : RunStep → Type 0) (later : List RunStep) → ((one : RunStep) → P one → Q one) → AllByRecursion P later → AllByRecursion Q later
+pub all_map : (P Q : RunStep → Type 0) (later : List RunStep) → ((one : RunStep) → P one → Q one) → AllByRecursion P later → AllByRecursion Q later
 all_map P Q [] to all = tt
 all_map P Q (one ∷ later) to all = (to one all.0, all_map P Q later to all.1)
 

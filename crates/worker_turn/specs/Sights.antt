@@ -8,9 +8,15 @@ use Rattle.readback.specs.Judging.{judgement}
 use Rattle.inverter_worker.specs.declared.job.Job.{Job}
 use Rattle.inverter_worker.specs.declared.input.Input.TheVariants as input
 use Rattle.inverter_worker.specs.declared.output.Asked.TheVariants as asked
+use Rattle.inverter_worker.specs.declared.output.Output.{Output}
 use Rattle.inverter_worker.specs.declared.output.Output.TheVariants as output
 use Rattle.inverter_worker.specs.Runs.{RunStep}
 use Rattle.worker_turn.specs.Requests.{IsStep, Awaits}
+
+-- whether an output is a call that enters what a read-back showed
+abbrev pub IsSight : Output → Type 0
+IsSight (output.Call (call.Saw at inverter number raw)) = Unit {0}
+IsSight put = ⊥
 
 -- A run so far ends with a call that enters what a read-back showed. It waited for the answer to a read of
 -- this number; then a frame came that is judged to show this raw percentage for that read; then the time

@@ -1,5 +1,5 @@
 //! Laws of a run of the table whose outputs were done: what it has to do with the book, the links and the bytes.
-ghost use Rattle.std.specs.Prelude.{◌≡◌, ℕ, ◌+◌, ◌-◌, ◌^◌, ◌≤◌, List, ◌∷◌, ◌++◌, Some, length, min};
+ghost use Rattle.std.specs.Prelude.{◌≡◌, ◌≢◌, ℕ, ◌+◌, ◌-◌, ◌^◌, ◌≤◌, List, [], ◌∷◌, ◌++◌, Some, length, min};
 ghost use Rattle.std.specs.List.{AllByRecursion};
 ghost use Rattle.world_traits.specs.Links.{Link, Links};
 ghost use Rattle.mbap_frames.specs.declared.frame.Frame.{Frame};
@@ -22,7 +22,7 @@ ghost use Rattle.worker_turn.specs.Agreeing.{endpoints, dialed, AreSent, IsSent}
 ghost use Rattle.worker_turn.specs.Worker.{IsBegin};
 ghost use Rattle.worker_turn.specs.Turning.{pending};
 ghost use Rattle.worker_turn.specs.Requests.{IsRequested};
-ghost use Rattle.worker_turn.specs.Sights.{IsSeen};
+ghost use Rattle.worker_turn.specs.Sights.{IsSight, IsSeen};
 ghost use Rattle.worker_turn.specs.Answered.{IsAnswered};
 
 /// The calls of a run with their replies, each at its own moment or a later one, are the entries that the desk gained.
@@ -89,12 +89,16 @@ pub fn requests_are_whole_before_a_receive()
 {}
 
 /// Wherever a run enters what a read-back showed, the step right before took the frame that shows it: the first frame
-/// with the number of the read that the ledger numbered last, and on the link that this read was sent on. So each such
-/// call has a frame of its own.
+/// with the number of the read that the ledger numbered last, and on the link that this read was sent on.
 pub fn each_sight_has_its_frame()
-    ensures { (job : Job) (begun last : State) (sofar later : List RunStep) (at inverter number raw : ℕ)
+    ensures each { (job : Job) (begun last : State) (sofar later : List RunStep) (at inverter number raw : ℕ)
         → begun.step ≡ Ready → LeadsTo job begun (sofar ++ later) last
         → pending Nothing sofar ≡ Call (Saw at inverter number raw) → IsSeen job sofar at inverter number raw }
+
+    // Each has a read and a frame of its own: those of a later one stand behind every earlier one.
+    ensures own { (job : Job) (sofar between : List RunStep) (at inverter number raw : ℕ)
+        → (seen : IsSeen job (sofar ++ between) at inverter number raw) → IsSight (pending Nothing sofar)
+        → between ≢ [] → (more : List RunStep) × (seen.awaits.before ≡ sofar ++ more) }
 {}
 
 /// The receives of a wait gave bytes, and then answered as the input tells: quiet, closed or failed where it is that,
