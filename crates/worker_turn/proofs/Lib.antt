@@ -11,4 +11,5 @@ pub mod Ending
 pub mod Cutting
 pub mod Whole
 pub mod Seeing
+pub mod Up
 pub mod Answering

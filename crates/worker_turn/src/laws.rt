@@ -1,5 +1,5 @@
 //! Laws of a run of the table whose outputs were done: what it has to do with the book, the links and the bytes.
-ghost use Rattle.std.specs.Prelude.{◌≡◌, ◌≢◌, ℕ, ◌+◌, ◌-◌, ◌^◌, ◌≤◌, List, [], ◌∷◌, ◌++◌, Some, length, min};
+ghost use Rattle.std.specs.Prelude.{◌≡◌, ◌≢◌, ℕ, ◌+◌, ◌-◌, ◌^◌, ◌≤◌, List, [], ◌∷◌, ◌++◌, Some, length, min, true};
 ghost use Rattle.std.specs.List.{AllByRecursion};
 ghost use Rattle.world_traits.specs.Links.{Link, Links};
 ghost use Rattle.mbap_frames.specs.declared.frame.Frame.{Frame};
@@ -21,7 +21,7 @@ ghost use Rattle.worker_turn.specs.Agreeing.{AreEntriesOf, calls_made, failures,
 ghost use Rattle.worker_turn.specs.Agreeing.{endpoints, dialed, AreSent, IsSent};
 ghost use Rattle.worker_turn.specs.Worker.{IsBegin};
 ghost use Rattle.worker_turn.specs.Turning.{pending};
-ghost use Rattle.worker_turn.specs.Requests.{IsRequested};
+ghost use Rattle.worker_turn.specs.Requests.{IsRequested, IsUp};
 ghost use Rattle.worker_turn.specs.Sights.{IsSight, IsSeen};
 ghost use Rattle.worker_turn.specs.Answered.{IsAnswered};
 
@@ -86,6 +86,19 @@ pub fn requests_are_whole_before_a_receive()
         → AreDone job Nothing (sofar ++ later) old new → pending Nothing sofar ≡ Receive
         → (here : World) × AreDone job Nothing sofar old here × AreDone job Receive later here new
         × IsRequested job sofar here.links }
+{}
+
+/// A worker knows whether its link is up, and waits for a frame on a link that is up alone.
+pub fn links_are_up_at_each_receive()
+    // Where one is up when a run begins, if the worker's state says so, one is up at a receive.
+    ensures receive { (job : Job) (begun last : State) (run : List RunStep) (old here : World)
+        → begun.step ≡ Ready → (begun.up ≡ true → IsUp old.links) → LeadsTo job begun run last
+        → AreDone job Nothing run old here → pending Nothing run ≡ Receive → IsUp here.links }
+
+    // And the next run begins likewise.
+    ensures ready { (job : Job) (begun last : State) (run : List RunStep) (old new : World)
+        → begun.step ≡ Ready → (begun.up ≡ true → IsUp old.links) → LeadsTo job begun run last
+        → AreDone job Nothing run old new → last.step ≡ Ready → last.up ≡ true → IsUp new.links }
 {}
 
 /// Wherever a run enters what a read-back showed, the step right before took the frame that shows it: the first frame
