@@ -1,6 +1,5 @@
 -- What a run so far ends with at each step of the table.
 use Rattle.std.proofs.Common.{◌≡◌, ◌≢◌, ℕ, Bool, true, false, cond, not, ltb, eqb, List, [], ◌∷◌, ◌++◌, length, Option, Some, None, refl, sym, ap, subst, ◌∙◌, append-nil, append_assoc}
-use Rattle.std.specs.List.{AllByRecursion}
 use Rattle.std.proofs.lemmas.Bool.{eqb-false}
 use Rattle.mbap_frames.specs.declared.frame.Frame.{Frame}
 use Rattle.modbus_pdu.specs.declared.pdu.Reply as answers
