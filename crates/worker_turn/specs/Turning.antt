@@ -1,4 +1,4 @@
--- The way through a turn. No promise to a caller names this.
+-- The way through a turn. Promises to a caller name `pending` alone of this.
 use Rattle.std.specs.Prelude.{◌≡◌, ◌≤◌, List, [], ◌∷◌, ◌++◌, Some}
 use Rattle.std.specs.List.{AllByRecursion}
 use Rattle.ledger_desk.specs.Desk.{GoalTest}
