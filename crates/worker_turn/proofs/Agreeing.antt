@@ -9,7 +9,7 @@ use Rattle.mbap_frames.specs.declared.frame.Frame.{Frame}
 use Rattle.frame_inbox.specs.declared.inbox.NoFrame.{NoFrame}
 use Rattle.frame_inbox.specs.declared.inbox.NoFrame.TheVariants as none
 use Rattle.frame_inbox.specs.Waiting.{Counts}
-use Rattle.ledger_desk.specs.Desk.{DeskState, EntersNone, Enters}
+use Rattle.ledger_desk.specs.Desk.{Enters}
 use Rattle.inverter_worker.specs.declared.job.Job.{Job}
 use Rattle.inverter_worker.specs.declared.input.Input.{Input}
 use Rattle.inverter_worker.specs.declared.input.Input.TheVariants as input
@@ -17,7 +17,7 @@ use Rattle.inverter_worker.specs.declared.output.Output.{Output}
 use Rattle.inverter_worker.specs.declared.output.Output.TheVariants as output
 use Rattle.inverter_worker.specs.Runs.{RunStep}
 use Rattle.worker_turn.specs.Doing.{World, IsDone, AreDone, arrival}
-use Rattle.worker_turn.specs.Agreeing.{made_by, calls_made, IsEntryOf, AreEntriesOf, failure_in, failures}
+use Rattle.worker_turn.specs.Agreeing.{made_by, calls_made, AreEntriesOf, failure_in, failures}
 
 -- entries of calls were gained
 abbrev pub Gains : List Entry → World → World → Type 0

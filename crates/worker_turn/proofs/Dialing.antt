@@ -2,12 +2,12 @@
 use Rattle.std.proofs.Common.{◌≡◌, ℕ, List, [], ◌∷◌, ◌++◌, take, Option, Some, None, Result, Ok, Err, refl, sym, ap, subst, ◌∙◌, append-nil, append_assoc}
 use Rattle.std.specs.Prelude.{map}
 use Rattle.std.specs.Option.{option_map}
-use Rattle.world_traits.specs.Links.{Answer, Bytes, Quiet, Closed, Failed, Link, Links, with_link, with_bytes, with_receipt, with_failure, after_hang_up, link_with_bytes, link_with_receipt, new_link, links_with, all_links}
+use Rattle.world_traits.specs.Links.{Bytes, Quiet, Closed, Failed, Link, Links, with_link, with_bytes, with_receipt, with_failure, after_hang_up, link_with_bytes, link_with_receipt, new_link, links_with, all_links}
 use Rattle.mbap_frames.specs.declared.frame.Frame.{Frame}
 use Rattle.mbap_frames.specs.Frame.{frame_spelling}
 use Rattle.frame_inbox.specs.declared.inbox.NoFrame.{NoFrame}
 use Rattle.frame_inbox.specs.declared.inbox.NoFrame.TheVariants as none
-use Rattle.frame_inbox.specs.Waiting.{with_pieces, Comes, Waits}
+use Rattle.frame_inbox.specs.Waiting.{with_pieces, Comes}
 use Rattle.inverter_worker.specs.declared.job.Job.{Job}
 use Rattle.inverter_worker.specs.declared.input.Input.{Input}
 use Rattle.inverter_worker.specs.declared.input.Input.TheVariants as input

@@ -1,5 +1,5 @@
 -- One output more is done.
-use Rattle.std.proofs.Common.{◌≡◌, ◌≢◌, ℕ, ◌+◌, ◌≤◌, false, List, [], ◌∷◌, ◌++◌, length, Option, Some, None, Result, Ok, Err, refl, sym, ap, subst, ◌∙◌, arith, append-nil, append_assoc}
+use Rattle.std.proofs.Common.{◌≡◌, ℕ, ◌≤◌, false, List, [], ◌∷◌, ◌++◌, length, Some, Result, Ok, Err, refl, sym, ap, subst, ◌∙◌, arith, append-nil, append_assoc}
 use Rattle.std.specs.List.{AllByRecursion}
 use Rattle.std.proofs.lemmas.List.Concat.{flat_map-append}
 use Rattle.plant_book.specs.declared.call.Call.{Call}
@@ -17,16 +17,15 @@ use Rattle.inverter_worker.specs.declared.input.Input.{Input}
 use Rattle.inverter_worker.specs.declared.input.Input.TheVariants as input
 use Rattle.inverter_worker.specs.declared.output.Output.{Output}
 use Rattle.inverter_worker.specs.declared.output.Output.TheVariants as output
-use Rattle.inverter_worker.specs.declared.output.Asked.{Asked}
 use Rattle.inverter_worker.specs.declared.output.Sent.{Sent}
 use Rattle.inverter_worker.specs.declared.state.State.{State}
 use Rattle.inverter_worker.specs.declared.state.Step.{Step}
 use Rattle.inverter_worker.specs.Table.{table}
 use Rattle.inverter_worker.specs.Answers.{IsAnswerTo, IsReplyTo}
-use Rattle.inverter_worker.specs.Runs.{RunStep, LeadsTo, log, sends_of}
+use Rattle.inverter_worker.specs.Runs.{RunStep, log, sends_of}
 use Rattle.inverter_worker.specs.Turns.{IsWithinTurn, reading_in, readings}
 use Rattle.inverter_worker.proofs.Runs.{LeadsTo-push}
-use Rattle.worker_turn.specs.Doing.{World, IsDone, AreDone, IsCome, arrival, request_frame}
+use Rattle.worker_turn.specs.Doing.{World, IsDone, AreDone, arrival}
 use Rattle.worker_turn.specs.Desks.{IsTold, IsToldNow}
 use Rattle.worker_turn.specs.Acts.{is_last, Stands}
 use Rattle.worker_turn.specs.Turning.{pending, Follows, IsFresh}
@@ -132,11 +131,11 @@ moves job output came old new done = absurd done
 pub answers : (job : Job) (output : Output) (came : Input) (old new : World) → IsDone job output came old new → IsAnswerTo output came
 answers job output came old new done = (moves job output came old new done).answers
 
-all_push : (P : RunStep → Type 0) (later : List RunStep) (one : RunStep) → AllByRecursion P later → P one → AllByRecursion P (later ++ one ∷ [])
+pub all_push : (P : RunStep → Type 0) (later : List RunStep) (one : RunStep) → AllByRecursion P later → P one → AllByRecursion P (later ++ one ∷ [])
 all_push P [] one all here = (here, tt)
 all_push P (first ∷ later) one all here = (all.0, all_push P later one all.1 here)
 
-all_map : (P Q : RunStep → Type 0) (later : List RunStep) → ((one : RunStep) → P one → Q one) → AllByRecursion P later → AllByRecursion Q later
+pub all_map : (P Q : RunStep → Type 0) (later : List RunStep) → ((one : RunStep) → P one → Q one) → AllByRecursion P later → AllByRecursion Q later
 all_map P Q [] to all = tt
 all_map P Q (one ∷ later) to all = (to one all.0, all_map P Q later to all.1)
 

@@ -7,3 +7,9 @@ pub mod Agreeing
 pub mod Reading
 pub mod Dialing
 pub mod Fewer
+pub mod Ending
+pub mod Cutting
+pub mod Whole
+pub mod Seeing
+pub mod Up
+pub mod Answering

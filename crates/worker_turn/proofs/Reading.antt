@@ -1,10 +1,9 @@
 -- The bytes of a link, one output after another.
-use Rattle.std.proofs.Common.{◌≡◌, ℕ, ◌+◌, ◌<◌, ◌≤◌, List, [], ◌∷◌, ◌++◌, length, take, Option, Some, None, Result, Ok, Err, refl, sym, ap, subst, ◌∙◌, arith, append-nil, append_assoc}
-use Rattle.std.specs.Prelude.{map}
+use Rattle.std.proofs.Common.{◌≡◌, ℕ, List, [], ◌∷◌, ◌++◌, length, take, Option, Some, None, Result, Ok, Err, refl, sym, ap, subst, ◌∙◌, append-nil, append_assoc}
 use Rattle.std.specs.List.{AllByRecursion, concat}
 use Rattle.std.specs.Option.{option_map}
 use Rattle.std.proofs.lemmas.List.Concat.{flat_map-append}
-use Rattle.world_traits.specs.Links.{Answer, Bytes, Quiet, Closed, Failed, Link, Links, Receipt, answer_bytes, received_bytes, with_link, with_bytes, with_receipt, with_failure, after_hang_up, link_with_bytes, link_with_receipt, new_link, links_with, all_links}
+use Rattle.world_traits.specs.Links.{Answer, Bytes, Quiet, Closed, Link, Links, Receipt, answer_bytes, received_bytes, with_link, with_bytes, with_receipt, with_failure, after_hang_up, link_with_bytes, link_with_receipt, new_link}
 use Rattle.mbap_frames.specs.declared.frame.Frame.{Frame}
 use Rattle.mbap_frames.specs.declared.frame.FrameFault.{FrameFault}
 use Rattle.mbap_frames.specs.Frame.{IsFrame, frame_spelling}
@@ -26,16 +25,16 @@ mapped : (g : Link → Link) (o : Option Link) (link : Link) → option_map g o 
 mapped g None link is = absurd cc
 mapped g (Some before) link is = (before, refl, cc)
 
-told_of : (f : Links → Links) (o : Option Links) (links : Links) → option_map f o ≡ Some links → (before : Links) × (o ≡ Some before) × (f before ≡ links)
+pub told_of : (f : Links → Links) (o : Option Links) (links : Links) → option_map f o ≡ Some links → (before : Links) × (o ≡ Some before) × (f before ≡ links)
 told_of f None links is = absurd cc
 told_of f (Some before) links is = (before, refl, cc)
 
 -- the link that is up was up before, and so many bytes more were received and sent on it
-abbrev Adds : (Links → Links) → (received sent : List ℕ) → Type 0
+abbrev pub Adds : (Links → Links) → (received sent : List ℕ) → Type 0
 Adds f received sent = (links : Links) (link : Link) → (f links).current ≡ Some link
     → (before : Link) × (links.current ≡ Some before) × (received_bytes link ≡ received_bytes before ++ received) × (link.sent ≡ before.sent ++ sent)
 
-adds_bytes : (bytes : List ℕ) → Adds (with_bytes bytes) [] bytes
+pub adds_bytes : (bytes : List ℕ) → Adds (with_bytes bytes) [] bytes
 adds_bytes bytes links link up =
     let m = mapped (link_with_bytes bytes) links.current link up in
     (m.0, m.1, ap received_bytes (sym m.2) ∙ sym (append-nil (received_bytes m.0)), ap (λ (l : Link). l.sent) (sym m.2))
@@ -45,12 +44,12 @@ received-push answer link =
     flat_map-append (λ (r : Receipt). answer_bytes r.answer) link.receipts (record { answer = answer; sent_before = length link.sent } ∷ [])
     ∙ ap (λ (t : List ℕ). received_bytes link ++ t) (append-nil (answer_bytes answer))
 
-adds_receipt : (answer : Answer) → Adds (with_receipt answer) (answer_bytes answer) []
+pub adds_receipt : (answer : Answer) → Adds (with_receipt answer) (answer_bytes answer) []
 adds_receipt answer links link up =
     let m = mapped (link_with_receipt answer) links.current link up in
     (m.0, m.1, ap received_bytes (sym m.2) ∙ received-push answer m.0, ap (λ (l : Link). l.sent) (sym m.2) ∙ sym (append-nil m.0.sent))
 
-adds_pieces : (pieces : List (List ℕ)) → Adds (with_pieces pieces) (concat pieces) []
+pub adds_pieces : (pieces : List (List ℕ)) → Adds (with_pieces pieces) (concat pieces) []
 adds_pieces [] links link up = (link, up, sym (append-nil (received_bytes link)), sym (append-nil link.sent))
 adds_pieces (piece ∷ pieces) links link up =
     let later = adds_pieces pieces (with_receipt (Bytes piece) links) link up in
@@ -61,7 +60,7 @@ adds_pieces (piece ∷ pieces) links link up =
       later.3 ∙ append-nil later.0.sent ∙ here.3,
     )
 
-adds_failure : (received sent : List ℕ) → Adds with_failure received sent
+pub adds_failure : (received sent : List ℕ) → Adds with_failure received sent
 adds_failure received sent links link up = absurd cc
 
 adds_hang_up : (received sent : List ℕ) → Adds after_hang_up received sent

@@ -1,6 +1,5 @@
 -- What a turn has left: steps, readings of the clock and requests.
-use Rattle.std.proofs.Common.{◌≡◌, ◌≢◌, ℕ, ◌+◌, ◌<◌, ◌≤◌, List, [], ◌++◌, length, Option, Some, None, refl, arith, length-append, ap, sym, ◌∙◌}
-use Rattle.plant_book.specs.declared.call.Write as writes
+use Rattle.std.proofs.Common.{◌≡◌, ◌≢◌, ℕ, ◌+◌, ◌<◌, ◌≤◌, length, Some, None, refl, arith}
 use Rattle.ledger_desk.specs.Desk.{GoalTest, RollTest, LifeTest}
 use Rattle.inverter_worker.specs.declared.job.Job.{Job}
 use Rattle.inverter_worker.specs.declared.input.Input.{Input}

@@ -1,6 +1,5 @@
 -- What a row leads to within a turn: the output stands with its step, and the ticket in hand is that of the step.
-use Rattle.std.proofs.Common.{◌≡◌, ◌≢◌, ℕ, ◌≤◌, Bool, true, false, cond, ltb, eqb, List, [], Option, Some, None, refl, sym, ap, subst, ◌∙◌}
-use Rattle.world_traits.specs.Clocks.{moment_max}
+use Rattle.std.proofs.Common.{◌≡◌, ◌≢◌, ℕ, Bool, true, false, cond, ltb, eqb, Option, Some, None, refl, sym, ap, subst, ◌∙◌}
 use Rattle.plant_book.specs.declared.call.Call.TheVariants as call
 use Rattle.plant_book.specs.declared.call.Reply.TheVariants as reply
 use Rattle.plant_book.specs.declared.call.Read as reads

@@ -1,5 +1,5 @@
 -- What came just now, as the desk tells it.
-use Rattle.std.proofs.Common.{◌≡◌, ℕ, Option, Some}
+use Rattle.std.proofs.Common.{◌≡◌, ℕ, Some}
 use Rattle.plant_book.specs.declared.call.Write as writes
 use Rattle.ledger_desk.specs.Desk.{DeskState, GoalTest}
 use Rattle.inverter_worker.specs.declared.input.Input.{Input}

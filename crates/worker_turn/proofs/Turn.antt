@@ -1,10 +1,8 @@
 -- A whole turn, from its begin.
-use Rattle.std.proofs.Common.{◌≡◌, ℕ, ◌+◌, ◌≤◌, Bool, true, false, cond, eqb, List, [], ◌∷◌, ◌++◌, length, ◌⊎◌, inl, inr, Option, Some, None, refl, sym, ap, subst, ◌∙◌, arith, append-nil}
-use Rattle.std.specs.Prelude.{IsSome}
+use Rattle.std.proofs.Common.{◌≡◌, ℕ, ◌≤◌, List, [], ◌∷◌, ◌++◌, length, inl, inr, Some, refl, sym, ap, ◌∙◌, arith, append-nil}
 use Rattle.ledger_desk.specs.Desk.{GoalTest}
 use Rattle.inverter_worker.specs.declared.job.Job.{Job}
 use Rattle.inverter_worker.specs.declared.input.Input.{Input}
-use Rattle.inverter_worker.specs.declared.input.Input.TheVariants as input
 use Rattle.inverter_worker.specs.declared.output.Output.{Output}
 use Rattle.inverter_worker.specs.declared.output.Output.TheVariants as output
 use Rattle.inverter_worker.specs.declared.output.Sent.{Sent}
@@ -13,8 +11,8 @@ use Rattle.inverter_worker.specs.declared.state.End.{End}
 use Rattle.inverter_worker.specs.declared.state.End.TheVariants as over
 use Rattle.inverter_worker.specs.declared.state.Step.{Step}
 use Rattle.inverter_worker.specs.declared.state.Step.TheVariants.{Ready, Aiming, Over}
-use Rattle.inverter_worker.specs.Table.{row, table, HasRow}
-use Rattle.inverter_worker.specs.Runs.{RunStep, LeadsTo, log, sends_of}
+use Rattle.inverter_worker.specs.Table.{table}
+use Rattle.inverter_worker.specs.Runs.{RunStep, log, sends_of}
 use Rattle.inverter_worker.specs.Turns.{reading_in, readings, IsShort}
 use Rattle.inverter_worker.proofs.Turns.{short}
 use Rattle.worker_turn.specs.Doing.{World, AreDone}

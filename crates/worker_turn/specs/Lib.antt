@@ -4,3 +4,6 @@ pub mod Worker
 pub mod Acts
 pub mod Turning
 pub mod Agreeing
+pub mod Requests
+pub mod Sights
+pub mod Answered

@@ -1,5 +1,5 @@
--- The way through a turn. No promise to a caller names this.
-use Rattle.std.specs.Prelude.{◌≡◌, ℕ, ◌≤◌, List, [], ◌∷◌, ◌++◌, Some}
+-- The way through a turn. Promises to a caller name `pending` alone of this.
+use Rattle.std.specs.Prelude.{◌≡◌, ◌≤◌, List, [], ◌∷◌, ◌++◌, Some}
 use Rattle.std.specs.List.{AllByRecursion}
 use Rattle.ledger_desk.specs.Desk.{GoalTest}
 use Rattle.inverter_worker.specs.declared.job.Job.{Job}

@@ -1,5 +1,5 @@
 -- A worker, and one turn of it.
-use Rattle.std.specs.Prelude.{◌≡◌, ◌⊎◌, ℕ, ◌≤◌, List, [], ◌∷◌, ◌++◌}
+use Rattle.std.specs.Prelude.{◌≡◌, ◌⊎◌, ℕ, List, [], ◌∷◌, ◌++◌}
 use Rattle.std.specs.List.{AllByRecursion}
 use Rattle.ledger_desk.specs.Desk.{GoalTest}
 use Rattle.inverter_worker.specs.declared.job.Job.{Job}

@@ -13,7 +13,9 @@ mod turning;
 mod worker;
 
 pub use laws::{
-    calls_are_entered, failures_are_counted, frames_are_read_in_order, links_are_the_jobs,
+    calls_are_entered, each_sight_has_its_frame, failures_are_counted, frames_are_read_in_order,
+    links_are_the_jobs, links_are_up_at_each_receive, requests_are_whole_before_a_receive,
+    turns_are_runs, waits_end_as_answered,
 };
 pub use worker::{Turned, Worker};
 

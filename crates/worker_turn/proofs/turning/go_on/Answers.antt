@@ -1,14 +1,11 @@
-use Rattle.std.proofs.Common.{◌≡◌, ◌≢◌, false, ◌++◌, ◌∷◌, [], ℕ, ◌+◌, ◌<◌, ◌≤◌, Some, None, refl, sym, ap, subst, ◌∙◌, arith, length, length-append}
+use Rattle.std.proofs.Common.{◌≡◌, false, ◌++◌, ◌∷◌, [], ◌<◌, refl, sym, ap, ◌∙◌, arith, length, length-append}
 use Rattle.std.specs.Prelude.{vec_len, vec_capacity}
-use Rattle.plant_book.specs.declared.call.Write as writes
-use Rattle.inverter_worker.specs.declared.state.Step.TheVariants.{Ready}
 use Rattle.inverter_worker.specs.declared.output.Output.TheVariants as output
 use Rattle.inverter_worker.specs.Turns.{reading_in}
-use Rattle.inverter_worker.specs.Runs.{sends_of}
-use Rattle.inverter_worker.proofs.Turns.{clock_left, requests_left}
+use Rattle.inverter_worker.proofs.Turns.{requests_left}
 use Rattle.inverter_worker.proofs.Answered.{answered}
 use Rattle.worker_turn.specs.Doing.{world_of}
-use Rattle.worker_turn.specs.Acts.{is_last, ticket_after, held}
+use Rattle.worker_turn.specs.Acts.{is_last, ticket_after}
 use Rattle.worker_turn.proofs.Rows.{led, not_ready}
 use Rattle.worker_turn.proofs.Going.{at_first, one_more, answers, moves}
 use Rattle.worker_turn.proofs.Rooms.{uses, begins_stands, begins_held, begins_clock, begins_room, lasting, same}

@@ -1,4 +1,4 @@
-use Rattle.std.proofs.Common.{◌≡◌, ℕ, ◌+◌, ◌<◌, ◌≤◌, List, length}
+use Rattle.std.proofs.Common.{◌≡◌, ◌+◌, ◌<◌, ◌≤◌, List, length}
 use Rattle.std.specs.Prelude.{vec_len, vec_capacity}
 use Rattle.inverter_worker.specs.Runs.{RunStep}
 use Rattle.inverter_worker.proofs.Turns.{steps_left, clock_left, requests_left}

@@ -1,4 +1,4 @@
-use Rattle.std.proofs.Common.{◌≡◌, ◌≤◌, ◌+◌, ℕ, suc, List, length, refl, sym, ap, subst, ◌∙◌}
+use Rattle.std.proofs.Common.{◌≡◌, ◌≤◌, ◌+◌, suc, List, ap, subst, ◌∙◌}
 use Rattle.inverter_worker.specs.declared.output.Sent.{Sent}
 use Rattle.inverter_worker.specs.declared.state.Step.TheVariants.{Ready}
 use Rattle.worker_turn.specs.Doing.{World, world_of}
