@@ -17,6 +17,7 @@ use Rattle.plant_book.specs.Reserved.{now_of}
 use Rattle.plant_book.specs.Answer.{is_stopped}
 use Rattle.plant_book.specs.Answered.{IsBook}
 use Rattle.uncertain_writes.specs.Live.{is_past, without}
+use Rattle.share_policy.specs.declared.claim.Claim.{Claim}
 use Rattle.share_policy.specs.Shares.{level_of}
 use Rattle.plant_book.specs.Policy.{fall_claims}
 use Rattle.plant_ledger.specs.declared.sums.Sums.{Sums}
@@ -90,9 +91,10 @@ abbrev pub mark_after : Option marks.CapMark → Entry → ℕ → Option marks.
 mark_after mark entry total = if sets_cap entry then Some (record { at = moment entry.call; was = total }) else mark
 
 -- All that the ledger keeps: each number is the definition's of the lives that go on in this book.
-pub record Keeps (part : PartRecord) (now : ℕ) (accounts : List Account) (queue : List Due) (together : Sums) (cap : ℕ) (stopped : Bool)
+pub record Keeps (part : PartRecord) (now : ℕ) (accounts : List Account) (claims : List Claim) (queue : List Due) (together : Sums) (cap : ℕ) (stopped : Bool)
     : Type 0 where
   pub numbers : IsLedgerOf part now accounts cap stopped
+  pub claims_are : claims ≡ map claim_by accounts
   pub sums : AreSums accounts together
   pub level : IsLevel cap accounts together.level
   pub fall : IsFallLevel cap part.site together.fall

@@ -23,8 +23,9 @@ invariant_of-self c =
     let inside = c.self.inside in
     let life = c.self.invariant.numbers.of_life in
     let begins = (next c life.before life.behind).begins in
-    subst (λ (book : PartRecord). Keeps book inside.moment inside.accounts.items inside.expiries inside.sums inside.cap inside.stopped) (sym c.replace.ensures.after) (record {
+    subst (λ (book : PartRecord). Keeps book inside.moment inside.accounts.items inside.claims.items inside.expiries inside.sums inside.cap inside.stopped) (sym c.replace.ensures.after) (record {
       numbers = (rolled c).0;
+      claims_are = c.self.invariant.claims_are;
       sums = c.self.invariant.sums;
       level = c.self.invariant.level;
       fall = subst (λ (site : SiteRecord). IsFallLevel inside.cap site inside.sums.fall) (sym (ap (λ (book : PartRecord). book.site) begins)) c.self.invariant.fall;
