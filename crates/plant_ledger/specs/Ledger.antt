@@ -2,6 +2,7 @@
 use Rattle.std.specs.Prelude.{◌≡◌, ℕ, ◌*◌, ◌^◌, ◌<◌, ◌≤◌, Bool, if◌then◌else◌, List, length, map, sum_by, Option, Some, IfSome, slice_index_or}
 use Rattle.std.specs.List.{All}
 use Rattle.limiter_num.specs.declared.rules.Rules.{Rules}
+use Rattle.limiter_num.specs.Timers.{reach}
 use Rattle.limiter_num.specs.Rating as rating
 use Rattle.plant_book.specs.declared.call.TheConstants.{MOMENT_MAX}
 use Rattle.plant_book.specs.declared.site.Unit.{Unit as Inverter}
@@ -92,7 +93,9 @@ mark_after mark entry total = if sets_cap entry then Some (record { at = moment 
 
 -- All that the ledger keeps: each number is the definition's of the lives that go on in this book.
 pub record Keeps (part : PartRecord) (now : ℕ) (accounts : List Account) (claims : List Claim) (queue : List Due) (together : Sums) (cap : ℕ) (stopped : Bool)
-    : Type 0 where
+    (held : ℕ) : Type 0 where
+  pub reach_is : held ≡ reach part.site.rules
+  pub reach_low : held ≤ 130860000
   pub numbers : IsLedgerOf part now accounts cap stopped
   pub claims_are : claims ≡ map claim_by accounts
   pub sums : AreSums accounts together

@@ -36,6 +36,8 @@ use std::mem;
 pub struct Ledger {
     book: Book,
     moment: u64,
+    /// How long after its grant a write may still be held, in ms.
+    reach: u64,
     accounts: Vec<Account>,
     /// What the share of each inverter goes by.
     claims: Vec<Claim>,
@@ -52,7 +54,7 @@ impl Model for Ledger {
 
     ghost view = { λ l. record { book = l.book; at = l.moment } };
 
-    ghost invariant = { λ l. Keeps l.book l.moment l.accounts.items l.claims.items l.expiries l.sums l.cap l.stopped };
+    ghost invariant = { λ l. Keeps l.book l.moment l.accounts.items l.claims.items l.expiries l.sums l.cap l.stopped l.reach };
 }
 
 impl Ledger {
@@ -70,10 +72,12 @@ impl Ledger {
         let sums = gather(&accounts);
         let expiries = Expiries::new(alloc)?;
         let cap = site.cap;
+        let reach = site.rules.reach();
         let book = Book::new(alloc, site, start, None)?;
         Ok(Ledger {
             book,
             moment: start,
+            reach,
             accounts,
             claims,
             expiries,
@@ -89,12 +93,12 @@ impl Ledger {
         requires high { now ≤ MOMENT_MAX }
         ensures { self.new ≡ record self.old { at = now } }
     {
-        let rules = rules_of(&self.book);
-        let reach = rules.reach();
+        let reach = self.reach;
         if now <= self.sums.oldest.saturating_add(reach) {
             self.moment = now;
             return;
         }
+        let rules = rules_of(&self.book);
         if now <= self.sums.unqueued.saturating_add(reach) {
             expire_due(
                 &mut self.accounts,
@@ -180,8 +184,7 @@ impl Ledger {
     pub fn silent_until(&self) -> u64
         ensures { EachBook self.now.book (λ whole. result ≡ silent_until whole) }
     {
-        let book = &self.book;
-        book.start + rules_of(book).reach()
+        self.book.start + self.reach
     }
 
     /// The rules of the site.

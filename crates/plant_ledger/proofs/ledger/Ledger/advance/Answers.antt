@@ -22,11 +22,13 @@ invariant_of-self c =
     let rules = inside.book.site.rules in
     let kept = c.self.invariant in
     let le : inside.moment ≤ c.args.now = omega (arith, c.requires.later, ap (λ (l : LedgerRecord). l.at) c.self.view_is) in
-    let reaches : c.reach-reach.result ≡ reach rules = c.reach-reach.ensures.moment ∙ ap reach c.rules_of-rules.ensures in
+    let reaches : inside.reach ≡ reach rules = kept.reach_is in
     let none : c.args.now ≤ inside.sums.oldest + reach rules = omega (arith, c.if-now-saturating_add.true, c.saturating_add.ensures, reaches) in
     let same = same_accounts_at rules c.args.now inside.sums.oldest inside.accounts.items none kept.sums.oldest in
     record {
       numbers = later_of inside.book inside.moment c.args.now inside.accounts.items inside.accounts.items inside.cap inside.stopped le c.requires.high (sym same) kept.numbers;
+      reach_is = kept.reach_is;
+      reach_low = kept.reach_low;
       claims_are = kept.claims_are;
       sums = kept.sums;
       level = kept.level;
@@ -60,9 +62,11 @@ invariant_of-self-2 c =
     let new = map (account_at rules now) inside.accounts.items in
     let is = made c.self.inside.accounts.items c.expire.new.accounts c.deref.result.now c.deref_mut-2.result.now c.self.inside.accounts.len c.args.now c.rules_of-rules.result c.self.inside.book.site.rules c.expire.ensures c.rules_of-rules.ensures c.deref_mut-2.ensures.value c.deref_mut-2.ensures.len c.deref.ensures.value in
     let its = subst (λ (all : List Account). AreSums all sums) is c.gather-sums.ensures.sums in
-    let all : Keeps inside.book now new inside.claims.items inside.expiries (record { total = sums.total; oldest = sums.oldest; level = inside.sums.level; unqueued = sums.oldest; fall = inside.sums.fall; set = inside.sums.set }) inside.cap inside.stopped =
+    let all : Keeps inside.book now new inside.claims.items inside.expiries (record { total = sums.total; oldest = sums.oldest; level = inside.sums.level; unqueued = sums.oldest; fall = inside.sums.fall; set = inside.sums.set }) inside.cap inside.stopped inside.reach =
     record {
       numbers = later_of inside.book inside.moment now inside.accounts.items new inside.cap inside.stopped le c.requires.high refl kept.numbers;
+      reach_is = kept.reach_is;
+      reach_low = kept.reach_low;
       claims_are = kept.claims_are ∙ sym (later_claims rules now inside.accounts.items);
       sums = record { total = its.total; each = its.each; oldest = its.oldest };
       level = subst (λ (claims : List Claim). IsOf inside.sums.level (level_of inside.cap claims)) (sym (later_claims rules now inside.accounts.items)) kept.level;
@@ -70,7 +74,7 @@ invariant_of-self-2 c =
       set = kept.set;
       queued = queued_all rules inside.expiries sums.oldest new its.oldest;
     } in
-    subst (λ (list : List Account). Keeps inside.book now list inside.claims.items inside.expiries (record { total = sums.total; oldest = sums.oldest; level = inside.sums.level; unqueued = sums.oldest; fall = inside.sums.fall; set = inside.sums.set }) inside.cap inside.stopped)
+    subst (λ (list : List Account). Keeps inside.book now list inside.claims.items inside.expiries (record { total = sums.total; oldest = sums.oldest; level = inside.sums.level; unqueued = sums.oldest; fall = inside.sums.fall; set = inside.sums.set }) inside.cap inside.stopped inside.reach)
     (sym is ∙ c.deref.ensures.value) all
 
 pub invariant_of-self-then-now-saturating_add-2 : goal.invariant_of-self-then-now-saturating_add-2
@@ -87,7 +91,7 @@ invariant_of-self-then-now-saturating_add-2 c =
     let oldest = c.saturating_sub-self-inside.result in
     let same_rules : c.rules_of-rules.result ≡ rules = c.rules_of-rules.ensures in
     let le : inside.moment ≤ now = omega (arith, c.requires.later, ap (λ (l : LedgerRecord). l.at) c.self.view_is) in
-    let reaches : c.reach-reach.result ≡ reach rules = c.reach-reach.ensures.moment ∙ ap reach same_rules in
+    let reaches : inside.reach ≡ reach rules = kept.reach_is in
     let count : length fresh ≡ inside.accounts.len = omega (arith, c.expire_due.auto.accounts, c.deref_mut.ensures.len) in
     let queued : AreQueued rules queue sums.unqueued fresh = subst (λ (r : Rules). AreQueued r queue sums.unqueued fresh) same_rules its.queued in
     let bound : oldest + reach rules ≤ now ⊎ (oldest ≡ 0) = elim (cases_lt now (reach rules)) [
@@ -100,9 +104,11 @@ invariant_of-self-then-now-saturating_add-2 c =
     sym at_once ∙ subst (λ (r : Rules). map (account_at r now) fresh ≡ map (account_at r now) c.deref_mut.result.now) same_rules its.same ∙ ap (map (account_at rules now)) c.deref_mut.ensures.value in
     let claims : map claim_by fresh ≡ map claim_by old = ap (map claim_by) is ∙ later_claims rules now old in
     let level = subst (λ (list : List Claim). IsOf inside.sums.level (level_of inside.cap list)) (sym claims) kept.level in
-    let all : Keeps inside.book now fresh inside.claims.items queue (record { total = sums.total; oldest = oldest; level = sums.level; unqueued = sums.unqueued; fall = sums.fall; set = sums.set }) inside.cap inside.stopped =
+    let all : Keeps inside.book now fresh inside.claims.items queue (record { total = sums.total; oldest = oldest; level = sums.level; unqueued = sums.unqueued; fall = sums.fall; set = sums.set }) inside.cap inside.stopped inside.reach =
     record {
       numbers = later_of inside.book inside.moment now old fresh inside.cap inside.stopped le c.requires.high is kept.numbers;
+      reach_is = kept.reach_is;
+      reach_low = kept.reach_low;
       claims_are = kept.claims_are ∙ sym claims;
       sums = record { total = its.sums.total; each = its.sums.each; oldest = from };
       level = subst (λ (known : Known). IsOf known (level_of inside.cap (map claim_by fresh))) (sym its.level) level;

@@ -77,9 +77,11 @@ invariant_of-self c =
     let granted : (inverter : ℕ) (write : writes.Write) → named c.args.entry.call ≡ Some inverter → c.args.entry.reply ≡ replies.Granted write
     → IsQueued inside.book.site.rules c.queue_grant-self-inside.new.expiries c.queue_grant-self-inside.result inverter write = λ inverter write is its.
     subst (λ (r : Rules). IsQueued r c.queue_grant-self-inside.new.expiries c.queue_grant-self-inside.result inverter write) same_rules (c.queue_grant-self-inside.ensures.granted inverter write is its) in
-    let all : Keeps (with_one inside.book c.args.entry) inside.moment new claims c.queue_grant-self-inside.new.expiries (record { total = c.mark.new.self.total; oldest = c.mark.new.self.oldest; level = c.mark.new.self.level; unqueued = c.queue_grant-self-inside.result; fall = c.mark.new.self.fall; set = c.mark.new.self.set }) c.cap_after-cap.result c.is_stopped_after-self-inside.result =
+    let all : Keeps (with_one inside.book c.args.entry) inside.moment new claims c.queue_grant-self-inside.new.expiries (record { total = c.mark.new.self.total; oldest = c.mark.new.self.oldest; level = c.mark.new.self.level; unqueued = c.queue_grant-self-inside.result; fall = c.mark.new.self.fall; set = c.mark.new.self.set }) c.cap_after-cap.result c.is_stopped_after-self-inside.result inside.reach =
     record {
       numbers = numbers;
+      reach_is = kept.reach_is;
+      reach_low = kept.reach_low;
       claims_are = c.follow.ensures.claims;
       sums = record { total = marked.total; each = marked.each; oldest = marked.oldest };
       level = subst (λ (made : Known). IsLevel c.cap_after-cap.result new made) (sym c.mark.ensures.level) (c.under.ensures.level new level);

@@ -1,4 +1,5 @@
 use Rattle.std.proofs.Common.{◌≡◌, ℕ, List, [], None, sym, subst, ◌∙◌, ap, map, false}
+use Rattle.limiter_num.specs.Timers.{reach}
 use Rattle.plant_book.specs.Site.{SiteRecord}
 use Rattle.plant_book.specs.Part.{PartRecord}
 use Rattle.plant_ledger.specs.Account.{Account}
@@ -21,6 +22,8 @@ invariant_of-result c =
     record {
       numbers = rw cap (subst (λ (book : PartRecord). IsLedgerOf book c.args.start c.in_ok-accounts.accounts.items c.args.site.cap false) (sym c.in_ok-book.ensures)
           (subst (λ (all : List Account). IsLedgerOf (record { site = c.args.site; start = c.args.start; carry = None; entries = [] }) c.args.start all c.args.site.cap false) (sym accounts) first));
+      reach_is = c.reach-reach.ensures.moment ∙ ap (λ (site : SiteRecord). reach site.rules) c.site.view_is ∙ sym (ap (λ (book : PartRecord). reach book.site.rules) c.in_ok-book.ensures);
+      reach_low = c.reach-reach.ensures.below;
       claims_are = c.in_ok-claims.ensures ∙ ap (map claim_by) c.deref-2.ensures.value;
       sums = subst (λ (all : List Account). AreSums all c.gather-sums.result) its c.gather-sums.ensures.sums;
       queued = subst (λ (n : ℕ). AreQueued c.in_ok-book.book.site.rules c.in_ok-expiries.expiries n c.in_ok-accounts.accounts.items) (sym c.gather-sums.ensures.unqueued)
