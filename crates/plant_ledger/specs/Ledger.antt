@@ -2,6 +2,7 @@
 use Rattle.std.specs.Prelude.{◌≡◌, ℕ, ◌*◌, ◌^◌, ◌<◌, ◌≤◌, Bool, if◌then◌else◌, List, length, map, sum_by, Option, Some, IfSome, slice_index_or}
 use Rattle.std.specs.List.{All}
 use Rattle.limiter_num.specs.declared.rules.Rules.{Rules}
+use Rattle.limiter_num.specs.Timers.{reach}
 use Rattle.limiter_num.specs.Rating as rating
 use Rattle.plant_book.specs.declared.call.TheConstants.{MOMENT_MAX}
 use Rattle.plant_book.specs.declared.site.Unit.{Unit as Inverter}
@@ -17,6 +18,7 @@ use Rattle.plant_book.specs.Reserved.{now_of}
 use Rattle.plant_book.specs.Answer.{is_stopped}
 use Rattle.plant_book.specs.Answered.{IsBook}
 use Rattle.uncertain_writes.specs.Live.{is_past, without}
+use Rattle.share_policy.specs.declared.claim.Claim.{Claim}
 use Rattle.share_policy.specs.Shares.{level_of}
 use Rattle.plant_book.specs.Policy.{fall_claims}
 use Rattle.plant_ledger.specs.declared.sums.Sums.{Sums}
@@ -90,9 +92,12 @@ abbrev pub mark_after : Option marks.CapMark → Entry → ℕ → Option marks.
 mark_after mark entry total = if sets_cap entry then Some (record { at = moment entry.call; was = total }) else mark
 
 -- All that the ledger keeps: each number is the definition's of the lives that go on in this book.
-pub record Keeps (part : PartRecord) (now : ℕ) (accounts : List Account) (queue : List Due) (together : Sums) (cap : ℕ) (stopped : Bool)
-    : Type 0 where
+pub record Keeps (part : PartRecord) (now : ℕ) (accounts : List Account) (claims : List Claim) (queue : List Due) (together : Sums) (cap : ℕ) (stopped : Bool)
+    (held : ℕ) : Type 0 where
+  pub reach_is : held ≡ reach part.site.rules
+  pub reach_low : held ≤ 130860000
   pub numbers : IsLedgerOf part now accounts cap stopped
+  pub claims_are : claims ≡ map claim_by accounts
   pub sums : AreSums accounts together
   pub level : IsLevel cap accounts together.level
   pub fall : IsFallLevel cap part.site together.fall

@@ -7,11 +7,12 @@ ghost use Rattle.plant_book.specs.Answer.{silent_until, stops, is_stopped};
 ghost use Rattle.plant_book.specs.Answered.{IsOpenable, IsNext, IsAnswer};
 ghost use Rattle.plant_book.specs.Reserved as sums;
 ghost use Rattle.plant_book.specs.Policy as rule;
+ghost use Rattle.share_policy.specs.Claims.{IsFeasible};
 ghost use Rattle.share_policy.specs.Shares.{level_of};
 ghost use Rattle.plant_book.specs.Part.{begin_of, calls_of, book_behind};
 ghost use Rattle.plant_book.specs.Carry.{mark_of, units_of, IsBookPart, EachBefore, EachBook};
 ghost use Rattle.plant_ledger.specs.Account.{Account as Kept};
-ghost use Rattle.plant_ledger.specs.Account.{IsAccount, HasRoom, first_account, after_call, unit_by};
+ghost use Rattle.plant_ledger.specs.Account.{IsAccount, HasRoom, first_account, after_call, claim_by, unit_by};
 ghost use Rattle.plant_ledger.specs.Ledger.{IsUnit, IsAtLast, AreSums, IsLevel, account_at};
 ghost use Rattle.plant_ledger.specs.Plant.{with_one, Rolls, IsFullLife};
 
@@ -21,7 +22,7 @@ use crate::rolling::{RollFault, next_book};
 use crate::sums::{Known, Sums, gather};
 use limiter_num::{NoMemory, Rules};
 use plant_book::{
-    Book, CALLS_MAX, Call, CapMark, Entry, MOMENT_MAX, Policy, Reply, Site, Unit, UnitCarry,
+    Book, CALLS_MAX, Call, CapMark, Claim, Entry, MOMENT_MAX, Policy, Reply, Site, Unit, UnitCarry,
 };
 use revert_timers::Expiries;
 use share_policy::{level, reaches};
@@ -35,7 +36,11 @@ use std::mem;
 pub struct Ledger {
     book: Book,
     moment: u64,
+    /// How long after its grant a write may still be held, in ms.
+    reach: u64,
     accounts: Vec<Account>,
+    /// What the share of each inverter goes by.
+    claims: Vec<Claim>,
     expiries: Expiries,
     sums: Sums,
     cap: u64,
@@ -49,7 +54,7 @@ impl Model for Ledger {
 
     ghost view = { λ l. record { book = l.book; at = l.moment } };
 
-    ghost invariant = { λ l. Keeps l.book l.moment l.accounts.items l.expiries l.sums l.cap l.stopped };
+    ghost invariant = { λ l. Keeps l.book l.moment l.accounts.items l.claims.items l.expiries l.sums l.cap l.stopped l.reach };
 }
 
 impl Ledger {
@@ -63,14 +68,18 @@ impl Ledger {
         }) }
     {
         let accounts = first_accounts(alloc, &site.units)?;
+        let claims = claims_by(alloc, &accounts)?;
         let sums = gather(&accounts);
         let expiries = Expiries::new(alloc)?;
         let cap = site.cap;
+        let reach = site.rules.reach();
         let book = Book::new(alloc, site, start, None)?;
         Ok(Ledger {
             book,
             moment: start,
+            reach,
             accounts,
+            claims,
             expiries,
             sums,
             cap,
@@ -84,24 +93,21 @@ impl Ledger {
         requires high { now ≤ MOMENT_MAX }
         ensures { self.new ≡ record self.old { at = now } }
     {
-        let rules = rules_of(&self.book);
-        let reach = rules.reach();
+        let reach = self.reach;
         if now <= self.sums.oldest.saturating_add(reach) {
             self.moment = now;
             return;
         }
+        let rules = rules_of(&self.book);
         if now <= self.sums.unqueued.saturating_add(reach) {
-            let sums = expire_due(
+            expire_due(
                 &mut self.accounts,
                 &mut self.expiries,
-                self.sums,
+                &mut self.sums,
                 &rules,
                 now,
             );
-            self.sums = Sums {
-                oldest: now.saturating_sub(reach),
-                ..sums
-            };
+            self.sums.oldest = now.saturating_sub(reach);
             self.moment = now;
             return;
         }
@@ -124,13 +130,17 @@ impl Ledger {
         ensures { self.new ≡ record { book = with_one self.old.book entry; at = self.old.at } }
     {
         let rules = rules_of(&self.book);
+        follow(
+            &mut self.accounts,
+            &mut self.claims,
+            &mut self.sums,
+            &rules,
+            &entry,
+        );
         let cap = cap_after(self.cap, &entry);
-        let sums = follow(&mut self.accounts, self.sums, &rules, &entry);
-        let unqueued = queue_grant(&mut self.expiries, sums.unqueued, &rules, &entry);
-        self.sums = Sums {
-            unqueued,
-            ..sums.under(self.cap, cap).marked(&entry)
-        };
+        self.sums.under(self.cap, cap);
+        self.sums.mark(&entry);
+        self.sums.unqueued = queue_grant(&mut self.expiries, self.sums.unqueued, &rules, &entry);
         self.cap = cap;
         self.stopped = is_stopped_after(self.stopped, &entry.call);
         self.book.push(entry);
@@ -174,8 +184,7 @@ impl Ledger {
     pub fn silent_until(&self) -> u64
         ensures { EachBook self.now.book (λ whole. result ≡ silent_until whole) }
     {
-        let book = &self.book;
-        book.start + rules_of(book).reach()
+        self.book.start + self.reach
     }
 
     /// The rules of the site.
@@ -246,13 +255,22 @@ impl Ledger {
         self.sums.total
     }
 
+    /// The claims of all inverters in the order of their numbers.
+    fn claims(&self) -> &[Claim]
+        ensures claims { EachBook self.now.book (λ whole. result.now ≡ rule.claims whole) }
+        ensures feasible { EachBook self.now.book (λ whole. IsFeasible (cap_of whole) (rule.claims whole)) }
+        ensures of_life { IsBookPart self.now.book }
+    {
+        &self.claims
+    }
+
     /// The level of the fair shares, in mW.
     pub fn level(&self) -> u64
         ensures { EachBook self.now.book (λ whole. result ≡ level_of (cap_of whole) (rule.claims whole)) }
     {
         match self.sums.level {
             Known::Is(level) => level,
-            Known::AtLeast(_) => level(self.cap(), self.claims().as_slice()),
+            Known::AtLeast(_) => level(self.cap(), self.claims()),
         }
     }
 
@@ -264,7 +282,7 @@ impl Ledger {
         match self.sums.level {
             Known::Is(level) => mw <= level,
             Known::AtLeast(least) if mw <= least => true,
-            Known::AtLeast(_) => reaches(self.cap(), self.claims().as_slice(), mw),
+            Known::AtLeast(_) => reaches(self.cap(), self.claims(), mw),
         }
     }
 
@@ -423,10 +441,31 @@ fn expire(accounts: &mut [Account], rules: &Rules, now: u64)
     }
 }
 
-/// The account of the inverter that one more entry names follows it, and so do the numbers of all accounts.
-fn follow(accounts: &mut [Account], sums: Sums, rules: &Rules, entry: &Entry) -> Sums
+/// What the shares of these inverters go by.
+fn claims_by(alloc: Global, accounts: &[Account]) -> Result<Vec<Claim>, NoMemory>
+    ensures { IfOk result (λ claims. claims.items ≡ map claim_by accounts.now) }
+{
+    let Ok(mut claims) = Vec::with_capacity(alloc, accounts.len()) else {
+        return Err(NoMemory);
+    };
+    for account in accounts {
+        claims.push_reserved(account.claim());
+    }
+    Ok(claims)
+}
+
+/// The account of the inverter that one more entry names follows it, and so do its claim and the numbers of all
+/// accounts.
+fn follow(
+    accounts: &mut [Account],
+    claims: &mut [Claim],
+    sums: &mut Sums,
+    rules: &Rules,
+    entry: &Entry,
+)
     requires few { length accounts.old ≤ 64 }
-    requires sums { AreSums accounts.old sums }
+    requires claims { claims.old ≡ map claim_by accounts.old }
+    requires sums { AreSums accounts.old sums.old }
     requires within { IfSome (named entry.now.call) (λ inverter. inverter < length accounts.old) }
     requires links { (inverter : ℕ) (otherwise : Kept) → named entry.now.call ≡ Some inverter
         → (slice_index_or accounts.old inverter otherwise).link < 4294967295 }
@@ -437,39 +476,38 @@ fn follow(accounts: &mut [Account], sums: Sums, rules: &Rules, entry: &Entry) ->
         (after_call rules.now entry.now.call entry.now.reply
         (slice_index_or accounts.old inverter otherwise)) }
     ensures unnamed { named entry.now.call ≡ None → accounts.new ≡ accounts.old }
-    ensures sums { AreSums accounts.new result }
-    ensures level { (cap : ℕ) → IsLevel cap accounts.old sums.level → IsLevel cap accounts.new result.level }
-    ensures fall { result.fall ≡ sums.fall }
-    ensures set { result.set ≡ sums.set }
-    ensures unqueued { result.unqueued ≡ sums.unqueued }
+    ensures claims { claims.new ≡ map claim_by accounts.new }
+    ensures sums { AreSums accounts.new sums.new }
+    ensures level { (cap : ℕ) → IsLevel cap accounts.old sums.old.level
+        → IsLevel cap accounts.new sums.new.level }
+    ensures fall { sums.new.fall ≡ sums.old.fall }
+    ensures set { sums.new.set ≡ sums.old.set }
+    ensures unqueued { sums.new.unqueued ≡ sums.old.unqueued }
 {
     let Some(inverter) = entry.call.inverter() else {
-        return sums;
+        return;
     };
-    let account = &mut accounts[usize::from(inverter)];
+    let place = usize::from(inverter);
+    let account = &mut accounts[place];
     let claim = account.claim();
     let reserved = account.reserved();
     account.follow(rules, entry);
-    Sums {
-        total: sums.total - reserved + account.reserved(),
-        oldest: sums.oldest.min(account.oldest()),
-        level: if account.claim() == claim {
-            sums.level
-        } else {
-            Known::AtLeast(0)
-        },
-        fall: sums.fall,
-        set: sums.set,
-        unqueued: sums.unqueued,
+    sums.total = sums.total - reserved + account.reserved();
+    sums.oldest = sums.oldest.min(account.oldest());
+    let next = account.claim();
+    if next == claim {
+        return;
     }
+    claims[place] = next;
+    sums.level = Known::AtLeast(0);
 }
 
 /// The cap in force after one more entry, in mW.
 fn cap_after(cap: u64, entry: &Entry) -> u64
     ensures { result ≡ (if sets_cap entry.now then cap_by cap entry.now.call else cap) }
 {
-    match (entry.call, entry.reply) {
-        (Call::Cap { mw, .. }, Reply::CapSet { .. }) => mw,
+    match (&entry.call, &entry.reply) {
+        (Call::Cap { mw, .. }, Reply::CapSet { .. }) => *mw,
         _ => cap,
     }
 }

@@ -57,53 +57,48 @@ fn queue_write(
 }
 
 /// Drops what is past by a moment in ms of the account at a place, if there is one.
-fn expire_at(accounts: &mut [Account], sums: Sums, place: usize, rules: &Rules, now: u64) -> Sums
+fn expire_at(accounts: &mut [Account], sums: &mut Sums, place: usize, rules: &Rules, now: u64)
     requires few { length accounts.old ≤ 64 }
-    requires sums { AreSums accounts.old sums }
-    ensures sums { AreSums accounts.new result }
+    requires sums { AreSums accounts.old sums.old }
+    ensures sums { AreSums accounts.new sums.new }
     ensures account { (otherwise : Kept) → place < length accounts.old → accounts.new
         ≡ slice_set accounts.old place (account_at rules.now now (slice_index_or accounts.old place otherwise)) }
     ensures none { length accounts.old ≤ place → accounts.new ≡ accounts.old }
-    ensures level { result.level ≡ sums.level }
-    ensures fall { result.fall ≡ sums.fall }
-    ensures set { result.set ≡ sums.set }
-    ensures unqueued { result.unqueued ≡ sums.unqueued }
+    ensures level { sums.new.level ≡ sums.old.level }
+    ensures fall { sums.new.fall ≡ sums.old.fall }
+    ensures set { sums.new.set ≡ sums.old.set }
+    ensures unqueued { sums.new.unqueued ≡ sums.old.unqueued }
 {
     if place >= accounts.len() {
-        return sums;
+        return;
     }
     let account = &mut accounts[place];
     let reserved = account.reserved();
     account.expire(rules, now);
-    Sums {
-        total: sums.total - reserved + account.reserved(),
-        ..sums
-    }
+    sums.total = sums.total - reserved + account.reserved();
 }
 
 /// Drops what is past by a moment in ms of the accounts whose writes stand at the front of the queue.
 pub fn expire_due(
     accounts: &mut [Account],
     expiries: &mut Expiries,
-    sums: Sums,
+    sums: &mut Sums,
     rules: &Rules,
     now: u64,
-) -> Sums
+)
     requires few { length accounts.old ≤ 64 }
-    requires sums { AreSums accounts.old sums }
-    requires queued { AreQueued rules.now expiries.old sums.unqueued accounts.old }
+    requires sums { AreSums accounts.old sums.old }
+    requires queued { AreQueued rules.now expiries.old sums.old.unqueued accounts.old }
     ensures same { map (account_at rules.now now) accounts.new ≡ map (account_at rules.now now) accounts.old }
-    ensures sums { AreSums accounts.new result }
-    ensures queued { AreQueued rules.now expiries.new result.unqueued accounts.new }
+    ensures sums { AreSums accounts.new sums.new }
+    ensures queued { AreQueued rules.now expiries.new sums.new.unqueued accounts.new }
     ensures none_due { All (λ due. now ≤ due.last) expiries.new }
-    ensures level { result.level ≡ sums.level }
-    ensures fall { result.fall ≡ sums.fall }
-    ensures set { result.set ≡ sums.set }
-    ensures unqueued { result.unqueued ≡ sums.unqueued }
+    ensures level { sums.new.level ≡ sums.old.level }
+    ensures fall { sums.new.fall ≡ sums.old.fall }
+    ensures set { sums.new.set ≡ sums.old.set }
+    ensures unqueued { sums.new.unqueued ≡ sums.old.unqueued }
 {
-    let mut sums = sums;
     while let Some(due) = expiries.pop_past(now) {
-        sums = expire_at(accounts, sums, usize::from(due.inverter), rules, now);
+        expire_at(accounts, sums, usize::from(due.inverter), rules, now);
     }
-    sums
 }

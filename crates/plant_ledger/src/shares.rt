@@ -21,19 +21,6 @@ impl Ledger {
         self.account(inverter).claim()
     }
 
-    /// The claims of all inverters in the order of their numbers.
-    pub fn claims(&self) -> ArrayVec<Claim, INVERTERS_MAX>
-        ensures claims { EachBook self.now.book (λ whole. result.items ≡ rule.claims whole) }
-        ensures feasible { EachBook self.now.book (λ whole. IsFeasible (cap_of whole) (rule.claims whole)) }
-        ensures of_life { IsBookPart self.now.book }
-    {
-        let mut claims = ArrayVec::new();
-        for inverter in 0..self.inverters() {
-            claims.push(self.claim(inverter));
-        }
-        claims
-    }
-
     /// The greatest limit that the policy allows the inverter under the cap in force, in mW.
     #[tactic(auto, unfolding(plant_book::specs::Policy::policy_target))]
     fn policy_target(&self, inverter: u8) -> u64

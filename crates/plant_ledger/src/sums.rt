@@ -46,42 +46,39 @@ pub struct Sums {
 }
 
 impl Sums {
-    /// The same numbers after the cap was the first and is the second of these, in mW.
-    pub fn under(self, old: u64, new: u64) -> Sums
-        ensures sums { (accounts : List Kept) → AreSums accounts self → AreSums accounts result }
-        ensures level { (accounts : List Kept) → IsLevel old accounts self.level
-            → IsLevel new accounts result.level }
-        ensures fall { (site : SiteRecord) → IsFallLevel old site self.fall → IsFallLevel new site result.fall }
-        ensures set { result.set ≡ self.set }
-        ensures unqueued { result.unqueued ≡ self.unqueued }
+    /// The cap was the first and is the second of these from now on, in mW.
+    pub fn under(&mut self, old: u64, new: u64)
+        ensures sums { (accounts : List Kept) → AreSums accounts self.old → AreSums accounts self.new }
+        ensures level { (accounts : List Kept) → IsLevel old accounts self.old.level
+            → IsLevel new accounts self.new.level }
+        ensures fall { (site : SiteRecord) → IsFallLevel old site self.old.fall
+            → IsFallLevel new site self.new.fall }
+        ensures set { self.new.set ≡ self.old.set }
+        ensures unqueued { self.new.unqueued ≡ self.old.unqueued }
     {
         if old == new {
-            return self;
+            return;
         }
-        Sums {
-            level: Known::AtLeast(0),
-            fall: None,
-            ..self
-        }
+        self.level = Known::AtLeast(0);
+        self.fall = None;
     }
 
-    /// The same numbers with the mark that the entry sets, if it does. The total is that after the entry.
-    pub fn marked(self, entry: &Entry) -> Sums
-        ensures sums { (accounts : List Kept) → AreSums accounts self → AreSums accounts result }
-        ensures level { result.level ≡ self.level }
-        ensures fall { result.fall ≡ self.fall }
-        ensures set { result.set ≡ mark_after self.set entry.now self.total }
-        ensures unqueued { result.unqueued ≡ self.unqueued }
+    /// Sets the mark that the entry sets, if it does. The total is that after the entry.
+    pub fn mark(&mut self, entry: &Entry)
+        ensures sums { (accounts : List Kept) → AreSums accounts self.old → AreSums accounts self.new }
+        ensures level { self.new.level ≡ self.old.level }
+        ensures fall { self.new.fall ≡ self.old.fall }
+        ensures set { self.new.set ≡ mark_after self.old.set entry.now self.old.total }
+        ensures unqueued { self.new.unqueued ≡ self.old.unqueued }
     {
-        match (entry.call, entry.reply) {
-            (Call::Cap { at, .. }, Reply::CapSet { .. }) => Sums {
-                set: Some(CapMark {
-                    at,
+        match (&entry.call, &entry.reply) {
+            (Call::Cap { at, .. }, Reply::CapSet { .. }) => {
+                self.set = Some(CapMark {
+                    at: *at,
                     was: self.total,
-                }),
-                ..self
-            },
-            _ => self,
+                });
+            }
+            _ => {}
         }
     }
 }

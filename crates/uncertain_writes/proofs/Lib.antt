@@ -1,4 +1,5 @@
 pub mod Lists
+pub mod Order
 pub mod Pending
 pub mod Replies
 pub mod Entries

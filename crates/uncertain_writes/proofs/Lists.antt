@@ -1,5 +1,5 @@
 -- What tests leave of a list.
-use Rattle.std.proofs.Common.{◌≡◌, ℕ, max, ◌+◌, ◌*◌, ◌<◌, ◌≤◌, Bool, true, false, cond, not, ◌&&◌, ◌||◌, List, [], ◌∷◌, ◌++◌, length, get_or, take, drop, map, refl, ap, sym, ◌∙◌, arith, inl, inr}
+use Rattle.std.proofs.Common.{◌≡◌, ℕ, max, ◌+◌, ◌*◌, ◌<◌, ◌≤◌, Bool, true, false, cond, not, ◌&&◌, ◌||◌, List, [], ◌∷◌, length, get_or, take, drop, map, refl, ap, sym, ◌∙◌, arith, inl, inr}
 use Rattle.std.specs.Prelude.{filter, fold}
 use Rattle.std.specs.List.{list_any}
 use Rattle.std.proofs.lemmas.Bool.{cases_Bool, cases_lt}
@@ -110,15 +110,7 @@ pub mw-zero : (rating : Rating) → mw rating 0 ≡ 0
 unfolding mw_of
 mw-zero rating = omega (arith, scaled_up_times 0 0 (rating.wmax * 0) (power_of rating.wsf rating.psf) (omega arith))
 
--- the milliwatts of the greatest raw percentage of some writes, and of one more of them
-pub greatest_more : (rating : Rating) (its : List writes.Write) (i most raw new : ℕ) (item : writes.Write) → i < length its → item ≡ get_or its i item → raw ≡ item.raw
-    → new ≡ max most raw → mw rating most ≡ fold max 0 (map (λ write. mw rating write.raw) (take i its)) → mw rating new ≡ fold max 0 (map (λ write. mw rating write.raw) (take (i + 1) its))
-greatest_more rating its i most raw new item within is its_raw greater old =
-    let more = fold_max-push (λ (write : writes.Write). mw rating write.raw) 0 (take i its) (get_or its i item) in
-    let its_mw = ap (λ (write : writes.Write). mw rating write.raw) is in
-    rw (take_more its i item within) (omega (arith, more, its_mw, ap (mw rating) its_raw, ap (mw rating) greater, mw-max rating most raw, old))
-
--- the same of those that a test leaves
+-- the milliwatts of the greatest raw percentage of those that a test leaves, and of one more of them
 module _ (rating : Rating) (test : writes.Write → Bool) (its : List writes.Write) (i most : ℕ) (item : writes.Write) (within : i < length its) (is : item ≡ get_or its i item)
     (old : mw rating most ≡ fold max 0 (map (λ write. mw rating write.raw) (without test (take i its)))) where
   pub greatest_left_more : (raw new : ℕ) → raw ≡ item.raw → new ≡ max most raw → test item ≡ false

@@ -1,5 +1,6 @@
 -- What each call makes of the list of an inverter's live writes.
-use Rattle.std.specs.Prelude.{ℕ, ◌^◌, ◌≤◌, Bool, not, ◌&&◌, ◌==◌, nat_lt, List, length, drop, filter}
+use Rattle.std.specs.Prelude.{◌≡◌, ℕ, ◌^◌, ◌≤◌, Bool, IsTrue, not, ◌&&◌, ◌==◌, nat_lt, List, length, drop, filter, fold, map, max}
+use Rattle.std.specs.List.Sorted.{IsNonDecreasingBy}
 use Rattle.limiter_num.specs.declared.rules.Rules.{Rules}
 use Rattle.limiter_num.specs.Timers.{last_moment}
 use Rattle.plant_book.specs.declared.call.Write as writes
@@ -28,7 +29,20 @@ has_raw raw write = write.raw == raw
 abbrev pub without : (writes.Write → Bool) → List writes.Write → List writes.Write
 without test its_writes = filter (λ write. not (test write)) its_writes
 
--- what a list keeps to: the writes behind those that are gone are few
-pub record IsKept (kept : List writes.Write) (gone : ℕ) : Type 0 where
+-- the greatest raw percentage of writes, or 0 of none
+abbrev pub most_raw : List writes.Write → ℕ
+most_raw its_writes = fold max 0 (map (λ write. write.raw) its_writes)
+
+-- no write is older than one before it
+abbrev pub AreInOrder : List writes.Write → Type 0
+AreInOrder its_writes = IsNonDecreasingBy (λ write. write.at) its_writes
+
+-- what places keep to: the writes behind those that are gone are few
+pub record AreFew (kept : List writes.Write) (gone : ℕ) : Type 0 where
   pub within : gone ≤ length kept
   pub few : length (drop gone kept) ≤ live_max
+
+-- what a list keeps beside its writes: their greatest raw percentage, and whether they are known to be in order
+pub record IsKept (its_writes : List writes.Write) (most : ℕ) (rising : Bool) : Type 0 where
+  pub greatest : most ≡ most_raw its_writes
+  pub order : IsTrue rising → AreInOrder its_writes

@@ -7,6 +7,7 @@
 mod kept;
 mod laws;
 mod live;
+mod places;
 
 pub use laws::{lists_follow_the_book, the_greatest_is_reserved};
 pub use live::Live;

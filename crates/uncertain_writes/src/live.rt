@@ -1,41 +1,38 @@
 //! The list of live writes.
-ghost use Rattle.std.specs.Prelude.{◌≡◌, ◌+◌, ◌*◌, ◌^◌, ◌≤◌, ◌<◌, ◌↔◌, IsTrue, nat_le, [], ◌∷◌, ◌++◌, Some, List, length, drop, filter, fold, map, max, IsOk, OnOk, OnErr, IfErr};
+ghost use Rattle.std.specs.Prelude.{◌≡◌, ◌*◌, ◌^◌, ◌≤◌, ◌<◌, ◌↔◌, IsTrue, nat_le, [], ◌∷◌, ◌++◌, Some, length, drop, filter, fold, map, max, IsOk, OnOk, OnErr, IfErr};
 ghost use Rattle.std.specs.List.{All, list_any};
 ghost use Rattle.limiter_num.specs.Rating.{mw};
+ghost use Rattle.plant_book.specs.declared.call.Write.{Write as Written};
 ghost use Rattle.plant_book.specs.Writes.{frees};
-ghost use Rattle.uncertain_writes.specs.Live.{live_max, moment_max, is_past, has_numbers, has_raw, without};
+ghost use Rattle.uncertain_writes.specs.Live.{live_max, moment_max, is_past, has_numbers, has_raw, without, most_raw, AreInOrder};
 
 use crate::kept::Kept;
+use crate::places::{Places, holds};
 use arrayvec::ArrayVec;
 use limiter_num::{Rating, Rules};
 use plant_book::{LIVE_MAX, Read, Write};
 use std::marker::Model;
 
-const _: () = prove!(LIVE_MAX == 32);
-
-/// How many places a list has. The places of writes that went from the front are used again once all were used.
-const PLACES: usize = 64;
-
-type Writes = ArrayVec<Kept, PLACES>;
-
 /// The live writes of one inverter in the order of their grants, at most 32 of them. Contracts see the list.
 #[derive(Debug, Drop)]
 pub struct Live {
-    writes: Writes,
-    /// How many of the writes are gone.
-    gone: usize,
+    /// The greatest raw percentage of the writes, or 0 where there is none.
+    most: u16,
+    /// Whether it is known that no write is older than one before it.
+    rising: bool,
+    writes: Places,
 }
 
 impl Model for Live {
-    ghost use Rattle.std.specs.Prelude.{List, drop};
+    ghost use Rattle.std.specs.Prelude.{List};
     ghost use Rattle.plant_book.specs.declared.call.Write.{Write};
     ghost use Rattle.uncertain_writes.specs.Live.{IsKept};
 
     ghost Value = { List Write };
 
-    ghost view = { λ live. drop live.gone live.writes.items };
+    ghost view = { λ live. live.writes };
 
-    ghost invariant = { λ live. IsKept live.writes.items live.gone };
+    ghost invariant = { λ live. IsKept live.writes live.most live.rising };
 }
 
 impl Live {
@@ -44,8 +41,9 @@ impl Live {
         ensures { result ≡ [] }
     {
         Live {
-            writes: Writes::new(),
-            gone: 0,
+            most: 0,
+            rising: true,
+            writes: Places::new(),
         }
     }
 
@@ -57,62 +55,72 @@ impl Live {
         ensures added { OnOk result (self.new ≡ self.old ++ write ∷ []) }
         ensures handed_back { IfErr result (λ back. (back ≡ write) × (self.new ≡ self.old)) }
     {
-        if self.is_full() {
+        if self.writes.is_full() {
             return Err(write);
         }
-        if self.writes.is_full() {
-            move_up(&mut self.writes, self.gone);
-            self.gone = 0;
-        }
-        self.writes.push(Kept::new(write));
+        self.rising = stays_rising(self.writes.kept(), self.rising, write.at);
+        self.most = self.most.max(write.raw);
+        self.writes.push(write);
         Ok(())
     }
 
     /// Drops the writes whose last moment is below now, and answers how many they were. `now` is in ms.
-    #[tactic(auto, using(crate::proofs::Lists::without_few))]
     pub fn expire(&mut self, rules: &Rules, now: u64) -> u8
         ensures left { self.new ≡ without (is_past rules.now now) self.old }
         ensures count { result ≡ length (filter (is_past rules.now now) self.old) }
     {
-        if self.gone < self.writes.len() && is_first_past_alone(self.kept(), rules, now) {
-            self.gone += 1;
+        if is_first_past_alone(self.writes.kept(), self.rising, rules, now) {
+            self.drop_first();
             return 1;
         }
-        move_up(&mut self.writes, self.gone);
-        self.gone = 0;
-        drop_past(&mut self.writes, rules, now)
+        let count = self.writes.drop_past(rules, now);
+        self.most = most_of(self.writes.kept());
+        count
+    }
+
+    /// Drops the first write.
+    fn drop_first(&mut self)
+        requires { 0 < length self.old }
+        ensures { self.new ≡ drop 1 self.old }
+    {
+        let kept = self.writes.kept();
+        let raw = kept[0].raw();
+        self.writes.drop_first();
+        if raw == self.most {
+            self.most = most_of(self.writes.kept());
+        }
     }
 
     /// Drops the writes that the read settles and whose raw percentage isn't the one that it showed, and answers how
     /// many they were.
-    #[tactic(auto, using(crate::proofs::Lists::without_few))]
     pub fn seen(&mut self, rules: &Rules, read: &Read, raw: u16) -> u8
         ensures left { self.new ≡ without (frees rules.now (Some read.now) raw) self.old }
         ensures count { result ≡ length (filter (frees rules.now (Some read.now) raw) self.old) }
     {
-        move_up(&mut self.writes, self.gone);
-        self.gone = 0;
-        drop_freed(&mut self.writes, rules, read, raw)
+        let count = self.writes.drop_freed(rules, read, raw);
+        self.most = most_of(self.writes.kept());
+        count
     }
 
     /// Drops the write of this link and number, which wasn't sent and never will be, and answers whether it was there.
-    #[tactic(auto, using(crate::proofs::Lists::without_few))]
     pub fn drop_unsent(&mut self, link: u32, number: u16) -> bool
         ensures left { self.new ≡ without (has_numbers link number) self.old }
         ensures held { result ≡ list_any (has_numbers link number) self.old }
     {
-        move_up(&mut self.writes, self.gone);
-        self.gone = 0;
-        drop_numbered(&mut self.writes, link, number)
+        let held = self.writes.drop_numbered(link, number);
+        self.most = most_of(self.writes.kept());
+        held
     }
 
     /// What is left of the list where the read showed this raw percentage.
     pub fn left_by(&self, rules: &Rules, read: &Read, raw: u16) -> Live
         ensures { result ≡ without (frees rules.now (Some read.now) raw) self.now }
     {
+        let writes = self.writes.left_by(rules, read, raw);
         Live {
-            writes: left_by(self.kept(), rules, read, raw),
-            gone: 0,
+            most: most_of(writes.kept()),
+            rising: self.rising,
+            writes,
         }
     }
 
@@ -120,7 +128,7 @@ impl Live {
     pub fn freed(&self, rules: &Rules, read: &Read, raw: u16) -> u8
         ensures { result ≡ length (filter (frees rules.now (Some read.now) raw) self.now) }
     {
-        freed(self.kept(), rules, read, raw)
+        freed(self.writes.kept(), rules, read, raw)
     }
 
     /// The greatest limit in mW of the writes that are left then, or 0 where there is none.
@@ -129,35 +137,35 @@ impl Live {
             (without (frees rules.now (Some read.now) raw) self.now)) }
         ensures below { result ≤ 65535 * 10 ^ 12 }
     {
-        greatest_left(self.kept(), rating, rules, read, raw)
+        greatest_left(self.writes.kept(), rating, rules, read, raw)
     }
 
     /// How many writes the list has.
     pub fn len(&self) -> u8
         ensures { result ≡ length self.now }
     {
-        self.kept().len() as u8
+        self.writes.kept().len() as u8
     }
 
     /// Whether the list has 32 writes.
     pub fn is_full(&self) -> bool
         ensures { result ≡ nat_le live_max (length self.now) }
     {
-        self.kept().len() >= LIVE_MAX
+        self.writes.is_full()
     }
 
     /// Whether the list has a write of this link and number.
     pub fn holds(&self, link: u32, number: u16) -> bool
         ensures { result ≡ list_any (has_numbers link number) self.now }
     {
-        holds(self.kept(), link, number)
+        holds(self.writes.kept(), link, number)
     }
 
     /// Whether a write of the list has this raw percentage.
     pub fn knows(&self, raw: u16) -> bool
         ensures { result ≡ list_any (has_raw raw) self.now }
     {
-        knows(self.kept(), raw)
+        knows(self.writes.kept(), raw)
     }
 
     /// The greatest limit of the list in mW, or 0 where there is no write.
@@ -165,110 +173,71 @@ impl Live {
         ensures watts { result ≡ fold max 0 (map (λ write. mw rating.now write.raw) self.now) }
         ensures below { result ≤ 65535 * 10 ^ 12 }
     {
-        greatest(self.kept(), rating)
+        rating.mw(self.most)
     }
 
     /// The writes.
     pub fn writes(&self) -> ArrayVec<Write, LIVE_MAX>
         ensures { result.items ≡ self.now }
     {
-        writes(self.kept())
+        writes(self.writes.kept())
     }
 
     /// The earliest moment of a write of the list in ms, or the greatest number where there is none.
     pub fn oldest(&self) -> u64
         ensures { All (λ write. result ≤ write.at) self.now }
     {
-        oldest(self.kept())
-    }
-
-    /// The writes as they are kept.
-    #[inline(always)]
-    fn kept(&self) -> &[Kept]
-        ensures writes { result.now ≡ self.now }
-        ensures few { length self.now ≤ live_max }
-    {
-        &self.writes.as_slice()[self.gone..]
+        oldest(self.writes.kept(), self.rising)
     }
 }
 
-/// Moves the writes behind those that are gone to the front.
-fn move_up(writes: &mut Writes, gone: usize)
-    requires within { gone ≤ length writes.old.items }
-    requires few { length (drop gone writes.old.items) ≤ live_max }
-    ensures { writes.new.items ≡ drop gone writes.old.items }
+/// Whether it is known that no write is older than one before it, with one of this moment in ms behind them.
+fn stays_rising(writes: &[Kept], rising: bool, at: u64) -> bool
+    requires { IsTrue rising → AreInOrder writes.now }
+    ensures { IsTrue result → (write : Written) → write.at ≡ at → AreInOrder (writes.now ++ write ∷ []) }
 {
-    if gone > 0 {
-        *writes = copied(&writes.as_slice()[gone..]);
+    if !rising {
+        return false;
+    }
+    match writes {
+        [.., last] => last.at() <= at,
+        [] => true,
     }
 }
 
-fn copied(kept: &[Kept]) -> Writes
-    requires { length kept.now ≤ live_max }
-    ensures { result.items ≡ kept.now }
+/// The greatest raw percentage of the writes, or 0 where there is none.
+fn most_of(writes: &[Kept]) -> u16
+    ensures { result ≡ most_raw writes.now }
 {
-    let mut writes = Writes::new();
-    for one in kept {
-        writes.push(*one);
+    let mut most: u16 = 0;
+    for kept in writes {
+        most = most.max(kept.raw());
     }
-    writes
+    most
 }
 
 /// Whether the first write is past, and no other is.
-fn is_first_past_alone(writes: &[Kept], rules: &Rules, now: u64) -> bool
+fn is_first_past_alone(writes: &[Kept], rising: bool, rules: &Rules, now: u64) -> bool
+    requires { IsTrue rising → AreInOrder writes.now }
     ensures left { IsTrue result → without (is_past rules.now now) writes.now ≡ drop 1 writes.now }
     ensures one { IsTrue result → length (filter (is_past rules.now now) writes.now) ≡ 1 }
+    ensures some { IsTrue result → 0 < length writes.now }
 {
     match writes {
-        [first, rest @ ..] => first.is_past(rules, now) && !has_past(rest, rules, now),
+        [first, rest @ ..] => first.is_past(rules, now) && !has_past(rest, rising, rules, now),
         [] => false,
     }
 }
 
-fn has_past(writes: &[Kept], rules: &Rules, now: u64) -> bool
+/// Whether a write is past. Where they rise, it is the first, if one is.
+fn has_past(writes: &[Kept], rising: bool, rules: &Rules, now: u64) -> bool
+    requires { IsTrue rising → AreInOrder writes.now }
     ensures { result ≡ list_any (is_past rules.now now) writes.now }
 {
-    writes.iter().any(|kept| kept.is_past(rules, now))
-}
-
-fn drop_past(writes: &mut Writes, rules: &Rules, now: u64) -> u8
-    ensures left { writes.new.items ≡ without (is_past rules.now now) writes.old.items }
-    ensures count { result ≡ length (filter (is_past rules.now now) writes.old.items) }
-{
-    let before = writes.len();
-    writes.retain(|kept| !kept.is_past(rules, now));
-    (before - writes.len()) as u8
-}
-
-fn drop_freed(writes: &mut Writes, rules: &Rules, read: &Read, raw: u16) -> u8
-    ensures left { writes.new.items ≡ without (frees rules.now (Some read.now) raw) writes.old.items }
-    ensures count { result ≡ length (filter (frees rules.now (Some read.now) raw) writes.old.items) }
-{
-    let before = writes.len();
-    writes.retain(|kept| !kept.is_freed_by(rules, read, raw));
-    (before - writes.len()) as u8
-}
-
-fn drop_numbered(writes: &mut Writes, link: u32, number: u16) -> bool
-    ensures left { writes.new.items ≡ without (has_numbers link number) writes.old.items }
-    ensures held { result ≡ list_any (has_numbers link number) writes.old.items }
-{
-    let held = holds(writes.as_slice(), link, number);
-    writes.retain(|kept| !kept.has_numbers(link, number));
-    held
-}
-
-fn left_by(writes: &[Kept], rules: &Rules, read: &Read, raw: u16) -> Writes
-    requires { length writes.now ≤ live_max }
-    ensures { result.items ≡ without (frees rules.now (Some read.now) raw) writes.now }
-{
-    let mut left = Writes::new();
-    for write in writes {
-        if !write.is_freed_by(rules, read, raw) {
-            left.push(*write);
-        }
+    match writes {
+        [first, ..] if rising => first.is_past(rules, now),
+        _ => writes.iter().any(|kept| kept.is_past(rules, now)),
     }
-    left
 }
 
 fn freed(writes: &[Kept], rules: &Rules, read: &Read, raw: u16) -> u8
@@ -298,27 +267,10 @@ fn greatest_left(writes: &[Kept], rating: &Rating, rules: &Rules, read: &Read, r
     rating.mw(most)
 }
 
-fn holds(writes: &[Kept], link: u32, number: u16) -> bool
-    ensures { result ≡ list_any (has_numbers link number) writes.now }
-{
-    writes.iter().any(|kept| kept.has_numbers(link, number))
-}
-
 fn knows(writes: &[Kept], raw: u16) -> bool
     ensures { result ≡ list_any (has_raw raw) writes.now }
 {
     writes.iter().any(|kept| kept.raw() == raw)
-}
-
-fn greatest(writes: &[Kept], rating: &Rating) -> u64
-    ensures watts { result ≡ fold max 0 (map (λ write. mw rating.now write.raw) writes.now) }
-    ensures below { result ≤ 65535 * 10 ^ 12 }
-{
-    let mut most: u16 = 0;
-    for kept in writes {
-        most = most.max(kept.raw());
-    }
-    rating.mw(most)
 }
 
 fn writes(kept: &[Kept]) -> ArrayVec<Write, LIVE_MAX>
@@ -332,7 +284,20 @@ fn writes(kept: &[Kept]) -> ArrayVec<Write, LIVE_MAX>
     writes
 }
 
-fn oldest(writes: &[Kept]) -> u64
+/// The earliest moment of the writes in ms, or the greatest number where there is none. Where they rise, it is that of
+/// the first.
+fn oldest(writes: &[Kept], rising: bool) -> u64
+    requires { IsTrue rising → AreInOrder writes.now }
+    ensures { All (λ write. result ≤ write.at) writes.now }
+{
+    match writes {
+        [first, ..] if rising => first.at(),
+        _ => least_moment(writes),
+    }
+}
+
+/// The earliest moment of the writes in ms, or the greatest number where there is none.
+fn least_moment(writes: &[Kept]) -> u64
     ensures { All (λ write. result ≤ write.at) writes.now }
 {
     let mut oldest = u64::MAX;

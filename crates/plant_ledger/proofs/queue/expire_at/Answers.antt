@@ -6,13 +6,13 @@ use Rattle.plant_ledger.specs.Account.{Account, AreFrom, reserved_of}
 use Rattle.plant_ledger.proofs.Running.{total_low, sums_next}
 use Rattle.plant_ledger.proofs.queue.expire_at.Goals as goal
 
-pub overflow_add-result : goal.overflow_add-result
-overflow_add-result c = omega (arith, c.reserved.ensures.below, c.requires.sums.total, total_low c.args.accounts.now c.requires.few c.requires.sums.each)
+pub overflow_add-sums : goal.overflow_add-sums
+overflow_add-sums c = omega (arith, c.reserved.ensures.below, c.requires.sums.total, total_low c.args.accounts.now c.requires.few c.requires.sums.each)
 
 pub returns-clause-sums : goal.returns-clause-sums
 returns-clause-sums c =
     let accounts = c.args.accounts.now in
-    let sums = c.args.sums in
+    let sums = c.args.sums.now in
     let old = c.index-accounts-place.result in
     let new = c.expire.new.self in
     let within : c.args.place < length accounts = omega (arith, c.if-place-accounts.false) in

@@ -22,11 +22,14 @@ invariant_of-self c =
     let rules = inside.book.site.rules in
     let kept = c.self.invariant in
     let le : inside.moment ≤ c.args.now = omega (arith, c.requires.later, ap (λ (l : LedgerRecord). l.at) c.self.view_is) in
-    let reaches : c.reach-reach.result ≡ reach rules = c.reach-reach.ensures.moment ∙ ap reach c.rules_of-rules.ensures in
+    let reaches : inside.reach ≡ reach rules = kept.reach_is in
     let none : c.args.now ≤ inside.sums.oldest + reach rules = omega (arith, c.if-now-saturating_add.true, c.saturating_add.ensures, reaches) in
     let same = same_accounts_at rules c.args.now inside.sums.oldest inside.accounts.items none kept.sums.oldest in
     record {
       numbers = later_of inside.book inside.moment c.args.now inside.accounts.items inside.accounts.items inside.cap inside.stopped le c.requires.high (sym same) kept.numbers;
+      reach_is = kept.reach_is;
+      reach_low = kept.reach_low;
+      claims_are = kept.claims_are;
       sums = kept.sums;
       level = kept.level;
       fall = kept.fall;
@@ -59,16 +62,19 @@ invariant_of-self-2 c =
     let new = map (account_at rules now) inside.accounts.items in
     let is = made c.self.inside.accounts.items c.expire.new.accounts c.deref.result.now c.deref_mut-2.result.now c.self.inside.accounts.len c.args.now c.rules_of-rules.result c.self.inside.book.site.rules c.expire.ensures c.rules_of-rules.ensures c.deref_mut-2.ensures.value c.deref_mut-2.ensures.len c.deref.ensures.value in
     let its = subst (λ (all : List Account). AreSums all sums) is c.gather-sums.ensures.sums in
-    let all : Keeps inside.book now new inside.expiries (record { total = sums.total; oldest = sums.oldest; level = inside.sums.level; unqueued = sums.oldest; fall = inside.sums.fall; set = inside.sums.set }) inside.cap inside.stopped =
+    let all : Keeps inside.book now new inside.claims.items inside.expiries (record { total = sums.total; oldest = sums.oldest; level = inside.sums.level; unqueued = sums.oldest; fall = inside.sums.fall; set = inside.sums.set }) inside.cap inside.stopped inside.reach =
     record {
       numbers = later_of inside.book inside.moment now inside.accounts.items new inside.cap inside.stopped le c.requires.high refl kept.numbers;
+      reach_is = kept.reach_is;
+      reach_low = kept.reach_low;
+      claims_are = kept.claims_are ∙ sym (later_claims rules now inside.accounts.items);
       sums = record { total = its.total; each = its.each; oldest = its.oldest };
       level = subst (λ (claims : List Claim). IsOf inside.sums.level (level_of inside.cap claims)) (sym (later_claims rules now inside.accounts.items)) kept.level;
       fall = kept.fall;
       set = kept.set;
       queued = queued_all rules inside.expiries sums.oldest new its.oldest;
     } in
-    subst (λ (list : List Account). Keeps inside.book now list inside.expiries (record { total = sums.total; oldest = sums.oldest; level = inside.sums.level; unqueued = sums.oldest; fall = inside.sums.fall; set = inside.sums.set }) inside.cap inside.stopped)
+    subst (λ (list : List Account). Keeps inside.book now list inside.claims.items inside.expiries (record { total = sums.total; oldest = sums.oldest; level = inside.sums.level; unqueued = sums.oldest; fall = inside.sums.fall; set = inside.sums.set }) inside.cap inside.stopped inside.reach)
     (sym is ∙ c.deref.ensures.value) all
 
 pub invariant_of-self-then-now-saturating_add-2 : goal.invariant_of-self-then-now-saturating_add-2
@@ -78,29 +84,32 @@ invariant_of-self-then-now-saturating_add-2 c =
     let kept = c.self.invariant in
     let now = c.args.now in
     let old = inside.accounts.items in
-    let fresh = c.expire_due-sums.new.accounts in
-    let queue = c.expire_due-sums.new.expiries in
-    let sums = c.expire_due-sums.result in
-    let its = c.expire_due-sums.ensures in
-    let oldest = c.saturating_sub.result in
+    let fresh = c.expire_due.new.accounts in
+    let queue = c.expire_due.new.expiries in
+    let sums = c.expire_due.new.sums in
+    let its = c.expire_due.ensures in
+    let oldest = c.saturating_sub-self-inside.result in
     let same_rules : c.rules_of-rules.result ≡ rules = c.rules_of-rules.ensures in
     let le : inside.moment ≤ now = omega (arith, c.requires.later, ap (λ (l : LedgerRecord). l.at) c.self.view_is) in
-    let reaches : c.reach-reach.result ≡ reach rules = c.reach-reach.ensures.moment ∙ ap reach same_rules in
-    let count : length fresh ≡ inside.accounts.len = omega (arith, c.expire_due-sums.auto.accounts, c.deref_mut.ensures.len) in
+    let reaches : inside.reach ≡ reach rules = kept.reach_is in
+    let count : length fresh ≡ inside.accounts.len = omega (arith, c.expire_due.auto.accounts, c.deref_mut.ensures.len) in
     let queued : AreQueued rules queue sums.unqueued fresh = subst (λ (r : Rules). AreQueued r queue sums.unqueued fresh) same_rules its.queued in
     let bound : oldest + reach rules ≤ now ⊎ (oldest ≡ 0) = elim (cases_lt now (reach rules)) [
-      | inl lt ↦ inr (omega (arith, lt, reaches, c.saturating_sub.ensures))
-      | inr le ↦ inl (omega (arith, le, reaches, c.saturating_sub.ensures))
+      | inl lt ↦ inr (omega (arith, lt, reaches, c.saturating_sub-self-inside.ensures))
+      | inr le ↦ inl (omega (arith, le, reaches, c.saturating_sub-self-inside.ensures))
     ] in
     let from = queued_from rules now oldest sums.unqueued queue fresh queued its.none_due (omega (arith, c.if-now-saturating_add-2.true, c.saturating_add-2.ensures, reaches, its.unqueued)) bound in
-    let at_once = same_accounts_at rules now oldest fresh (omega (arith, c.saturating_sub.ensures, reaches)) from in
+    let at_once = same_accounts_at rules now oldest fresh (omega (arith, c.saturating_sub-self-inside.ensures, reaches)) from in
     let is : fresh ≡ map (account_at rules now) old =
     sym at_once ∙ subst (λ (r : Rules). map (account_at r now) fresh ≡ map (account_at r now) c.deref_mut.result.now) same_rules its.same ∙ ap (map (account_at rules now)) c.deref_mut.ensures.value in
     let claims : map claim_by fresh ≡ map claim_by old = ap (map claim_by) is ∙ later_claims rules now old in
     let level = subst (λ (list : List Claim). IsOf inside.sums.level (level_of inside.cap list)) (sym claims) kept.level in
-    let all : Keeps inside.book now fresh queue (record { total = sums.total; oldest = oldest; level = sums.level; unqueued = sums.unqueued; fall = sums.fall; set = sums.set }) inside.cap inside.stopped =
+    let all : Keeps inside.book now fresh inside.claims.items queue (record { total = sums.total; oldest = oldest; level = sums.level; unqueued = sums.unqueued; fall = sums.fall; set = sums.set }) inside.cap inside.stopped inside.reach =
     record {
       numbers = later_of inside.book inside.moment now old fresh inside.cap inside.stopped le c.requires.high is kept.numbers;
+      reach_is = kept.reach_is;
+      reach_low = kept.reach_low;
+      claims_are = kept.claims_are ∙ sym claims;
       sums = record { total = its.sums.total; each = its.sums.each; oldest = from };
       level = subst (λ (known : Known). IsOf known (level_of inside.cap (map claim_by fresh))) (sym its.level) level;
       fall = subst (λ (made : Option ℕ). IsFallLevel inside.cap inside.book.site made) (sym its.fall) kept.fall;

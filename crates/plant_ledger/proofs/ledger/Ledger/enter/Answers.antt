@@ -3,7 +3,7 @@ use Rattle.plant_book.specs.Part.{book_behind}
 use Rattle.plant_book.specs.declared.book.Entry.{Entry}
 use Rattle.plant_ledger.specs.Account.{Account}
 use Rattle.plant_ledger.specs.declared.sums.Known.{Known}
-use Rattle.plant_ledger.specs.Ledger.{LedgerRecord, AreSums, IsLevel, IsFallLevel, Keeps}
+use Rattle.plant_ledger.specs.Ledger.{LedgerRecord, IsLevel, IsFallLevel, Keeps}
 use Rattle.plant_ledger.specs.Plant.{with_one}
 use Rattle.plant_book.specs.Reserved.{total_at}
 use Rattle.plant_book.specs.Carry.{mark_of, EachBook}
@@ -17,8 +17,8 @@ use Rattle.plant_ledger.proofs.Running.{total_is, mark_next}
 use Rattle.plant_ledger.proofs.Accounts.{MayFollow, Follow, whole, may_enter, without_one, next_of, links_left, room_left}
 use Rattle.plant_ledger.proofs.ledger.Ledger.enter.Goals as goal
 
-pub follow-sums-requires-clause-links : goal.follow-sums-requires-clause-links
-follow-sums-requires-clause-links c = λ inverter otherwise is.
+pub follow-requires-clause-links : goal.follow-requires-clause-links
+follow-requires-clause-links c = λ inverter otherwise is.
     let inside = c.self.inside in
     let may : MayFollow inside.book inside.moment c.args.entry =
     subst (λ (ledger : LedgerRecord). MayFollow ledger.book ledger.at c.args.entry) (sym c.self.view_is)
@@ -28,8 +28,8 @@ follow-sums-requires-clause-links c = λ inverter otherwise is.
     rw c.deref_mut.ensures.value (links_left (book_behind before inside.book) c.args.entry inside.moment inside.accounts.items inside.cap inside.stopped (c.self.invariant.numbers.each before behind)
     (may_enter inside.book inside.moment c.args.entry before may behind) inverter otherwise is)
 
-pub follow-sums-requires-clause-room : goal.follow-sums-requires-clause-room
-follow-sums-requires-clause-room c = λ inverter otherwise is.
+pub follow-requires-clause-room : goal.follow-requires-clause-room
+follow-requires-clause-room c = λ inverter otherwise is.
     let inside = c.self.inside in
     let may : MayFollow inside.book inside.moment c.args.entry =
     subst (λ (ledger : LedgerRecord). MayFollow ledger.book ledger.at c.args.entry) (sym c.self.view_is)
@@ -46,52 +46,49 @@ invariant_of-self c =
     subst (λ (ledger : LedgerRecord). MayFollow ledger.book ledger.at c.args.entry) (sym c.self.view_is)
     (record { calls = c.requires.life; next = c.requires.next; answer = c.requires.answer; at_once = c.requires.now }) in
     let old : List Account = inside.accounts.items in
-    let new = c.follow-sums.new.accounts in
+    let new = c.follow.new.accounts in
     let follow : (before : List Entry) → Follow (book_behind before inside.book) c.args.entry old new = λ before. record {
-      follows = λ inverter otherwise is. rw (c.deref_mut.ensures.value, c.rules_of-rules.ensures) at (c.follow-sums.ensures.named inverter otherwise is);
-      stays = λ is. c.follow-sums.ensures.unnamed is ∙ c.deref_mut.ensures.value;
+      follows = λ inverter otherwise is. rw (c.deref_mut.ensures.value, c.rules_of-rules.ensures) at (c.follow.ensures.named inverter otherwise is);
+      stays = λ is. c.follow.ensures.unnamed is ∙ c.deref_mut.ensures.value;
     } in
-    let len : length new ≡ inside.accounts.len = omega (arith, c.follow-sums.auto.accounts, c.deref_mut.ensures.len) in
-    let count : length new ≡ length old = omega (arith, c.follow-sums.auto.accounts, ap (λ (all : List Account). length all) c.deref_mut.ensures.value) in
+    let len : length new ≡ inside.accounts.len = omega (arith, c.follow.auto.accounts, c.deref_mut.ensures.len) in
+    let count : length new ≡ length old = omega (arith, c.follow.auto.accounts, ap (λ (all : List Account). length all) c.deref_mut.ensures.value) in
+    let claims = c.follow.new.claims in
+    let claims_len : length claims ≡ inside.claims.len = omega (arith, c.follow.auto.claims, c.deref_mut-2.ensures.len) in
     let kept = c.self.invariant in
-    let sums = c.follow-sums.result in
-    let level = c.follow-sums.ensures.level inside.cap (subst (λ (all : List Account). IsLevel inside.cap all inside.sums.level) (sym c.deref_mut.ensures.value) kept.level) in
-    let fall = subst (λ (made : Option ℕ). IsFallLevel inside.cap inside.book.site made) (sym c.follow-sums.ensures.fall) kept.fall in
+    let sums = c.follow.new.sums in
+    let level = c.follow.ensures.level inside.cap (subst (λ (all : List Account). IsLevel inside.cap all inside.sums.level) (sym c.deref_mut.ensures.value) kept.level) in
+    let fall = subst (λ (made : Option ℕ). IsFallLevel inside.cap inside.book.site made) (sym c.follow.ensures.fall) kept.fall in
     let numbers = next_of inside.book c.args.entry inside.moment old new inside.cap inside.stopped kept.numbers may count follow c.cap_after-cap.result c.is_stopped_after-self-inside.result c.cap_after-cap.ensures c.is_stopped_after-self-inside.ensures in
-    let same : c.under.result.set ≡ inside.sums.set = c.under.ensures.set ∙ c.follow-sums.ensures.set in
-    let under = c.under.ensures.sums new c.follow-sums.ensures.sums in
-    let mark : EachBook (with_one inside.book c.args.entry) (λ whole. c.marked.result.set ≡ mark_of whole) = λ before is.
+    let same : c.under.new.self.set ≡ inside.sums.set = c.under.ensures.set ∙ c.follow.ensures.set in
+    let under = c.under.ensures.sums new c.follow.ensures.sums in
+    let mark : EachBook (with_one inside.book c.args.entry) (λ whole. c.mark.new.self.set ≡ mark_of whole) = λ before is.
     let whole = book_behind before (with_one inside.book c.args.entry) in
     let total = under.total ∙ total_is whole inside.moment new (numbers.each before is).of_inverters ∙ ap (total_at whole) (sym may.at_once) in
-    c.marked.ensures.set ∙ mark_next inside.book before c.args.entry c.under.result.total c.under.result.set (same ∙ kept.set before (without_one before inside.book c.args.entry is)) total in
-    let marked = c.marked.ensures.sums new under in
+    c.mark.ensures.set ∙ mark_next inside.book before c.args.entry c.under.new.self.total c.under.new.self.set (same ∙ kept.set before (without_one before inside.book c.args.entry is)) total in
+    let marked = c.mark.ensures.sums new under in
     let same_rules : c.rules_of-rules.result ≡ inside.book.site.rules = c.rules_of-rules.ensures in
+    let unqueued : c.mark.new.self.unqueued ≡ inside.sums.unqueued = c.mark.ensures.unqueued ∙ c.under.ensures.unqueued ∙ c.follow.ensures.unqueued in
     let others : (inverter : ℕ) (write : writes.Write) → IsQueued inside.book.site.rules inside.expiries inside.sums.unqueued inverter write
-    → IsQueued inside.book.site.rules c.queue_grant-unqueued.new.expiries c.queue_grant-unqueued.result inverter write = λ inverter write is.
-    subst (λ (r : Rules). IsQueued r c.queue_grant-unqueued.new.expiries c.queue_grant-unqueued.result inverter write) same_rules
-    (c.queue_grant-unqueued.ensures.others inverter write (subst (λ (n : ℕ). IsQueued c.rules_of-rules.result inside.expiries n inverter write) (sym c.follow-sums.ensures.unqueued)
+    → IsQueued inside.book.site.rules c.queue_grant-self-inside.new.expiries c.queue_grant-self-inside.result inverter write = λ inverter write is.
+    subst (λ (r : Rules). IsQueued r c.queue_grant-self-inside.new.expiries c.queue_grant-self-inside.result inverter write) same_rules
+    (c.queue_grant-self-inside.ensures.others inverter write (subst (λ (n : ℕ). IsQueued c.rules_of-rules.result inside.expiries n inverter write) (sym unqueued)
     (subst (λ (r : Rules). IsQueued r inside.expiries inside.sums.unqueued inverter write) (sym same_rules) is))) in
     let granted : (inverter : ℕ) (write : writes.Write) → named c.args.entry.call ≡ Some inverter → c.args.entry.reply ≡ replies.Granted write
-    → IsQueued inside.book.site.rules c.queue_grant-unqueued.new.expiries c.queue_grant-unqueued.result inverter write = λ inverter write is its.
-    subst (λ (r : Rules). IsQueued r c.queue_grant-unqueued.new.expiries c.queue_grant-unqueued.result inverter write) same_rules (c.queue_grant-unqueued.ensures.granted inverter write is its) in
-    let all : Keeps (with_one inside.book c.args.entry) inside.moment new c.queue_grant-unqueued.new.expiries (record { total = c.marked.result.total; oldest = c.marked.result.oldest; level = c.marked.result.level; unqueued = c.queue_grant-unqueued.result; fall = c.marked.result.fall; set = c.marked.result.set }) c.cap_after-cap.result c.is_stopped_after-self-inside.result =
+    → IsQueued inside.book.site.rules c.queue_grant-self-inside.new.expiries c.queue_grant-self-inside.result inverter write = λ inverter write is its.
+    subst (λ (r : Rules). IsQueued r c.queue_grant-self-inside.new.expiries c.queue_grant-self-inside.result inverter write) same_rules (c.queue_grant-self-inside.ensures.granted inverter write is its) in
+    let all : Keeps (with_one inside.book c.args.entry) inside.moment new claims c.queue_grant-self-inside.new.expiries (record { total = c.mark.new.self.total; oldest = c.mark.new.self.oldest; level = c.mark.new.self.level; unqueued = c.queue_grant-self-inside.result; fall = c.mark.new.self.fall; set = c.mark.new.self.set }) c.cap_after-cap.result c.is_stopped_after-self-inside.result inside.reach =
     record {
       numbers = numbers;
+      reach_is = kept.reach_is;
+      reach_low = kept.reach_low;
+      claims_are = c.follow.ensures.claims;
       sums = record { total = marked.total; each = marked.each; oldest = marked.oldest };
-      level = subst (λ (made : Known). IsLevel c.cap_after-cap.result new made) (sym c.marked.ensures.level) (c.under.ensures.level new level);
-      fall = subst (λ (made : Option ℕ). IsFallLevel c.cap_after-cap.result inside.book.site made) (sym c.marked.ensures.fall) (c.under.ensures.fall inside.book.site fall);
+      level = subst (λ (made : Known). IsLevel c.cap_after-cap.result new made) (sym c.mark.ensures.level) (c.under.ensures.level new level);
+      fall = subst (λ (made : Option ℕ). IsFallLevel c.cap_after-cap.result inside.book.site made) (sym c.mark.ensures.fall) (c.under.ensures.fall inside.book.site fall);
       set = mark;
-      queued = queued_entered inside.book.site.rules c.args.entry old new inside.expiries c.queue_grant-unqueued.new.expiries inside.sums.unqueued c.queue_grant-unqueued.result count
-          others granted (λ inverter otherwise is. rw (c.deref_mut.ensures.value, c.rules_of-rules.ensures) at (c.follow-sums.ensures.named inverter otherwise is))
-          (λ is. c.follow-sums.ensures.unnamed is ∙ c.deref_mut.ensures.value) kept.queued;
+      queued = queued_entered inside.book.site.rules c.args.entry old new inside.expiries c.queue_grant-self-inside.new.expiries inside.sums.unqueued c.queue_grant-self-inside.result count
+          others granted (λ inverter otherwise is. rw (c.deref_mut.ensures.value, c.rules_of-rules.ensures) at (c.follow.ensures.named inverter otherwise is))
+          (λ is. c.follow.ensures.unnamed is ∙ c.deref_mut.ensures.value) kept.queued;
     } in
-    rw (c.push.ensures, whole new old inside.accounts.len len) all
-
-pub follow-sums-requires-clause-few : goal.follow-sums-requires-clause-few
-follow-sums-requires-clause-few c =
-    let kept = c.self.invariant.numbers in
-    omega (arith, ap (λ (all : List Account). length all) c.deref_mut.ensures.value, kept.count, kept.of_life.behind.book.openable.few)
-
-pub follow-sums-requires-clause-sums : goal.follow-sums-requires-clause-sums
-follow-sums-requires-clause-sums c =
-    subst (λ (all : List Account). AreSums all c.self.inside.sums) (sym c.deref_mut.ensures.value) c.self.invariant.sums
+    rw (c.push.ensures, whole new old inside.accounts.len len, whole claims inside.claims.items inside.claims.len claims_len) all

@@ -22,6 +22,9 @@ invariant_of-self c =
     let within = leb-true c.args.mw (level_of (cap_of whole) (rule.claims whole)) (sym (found life.before life.behind) ∙ c.if-reaches.true) in
     record {
       numbers = kept.numbers;
+      reach_is = kept.reach_is;
+      reach_low = kept.reach_low;
+      claims_are = kept.claims_are;
       sums = record { total = kept.sums.total; each = kept.sums.each; oldest = kept.sums.oldest };
       level = c.or_at_least-self-inside.ensures (level_of inside.cap (map claim_by inside.accounts.items)) kept.level (omega (arith, within, level));
       fall = kept.fall;

@@ -21,4 +21,4 @@ returns-in-Is c =
 pub level-requires : goal.level-requires
 level-requires c =
     let life = c.claims.ensures.of_life in
-    rw (c.cap.ensures.cap life.before life.behind, c.as_slice.ensures.value, c.claims.ensures.claims life.before life.behind) (c.claims.ensures.feasible life.before life.behind)
+    rw (c.cap.ensures.cap life.before life.behind, c.claims.ensures.claims life.before life.behind) (c.claims.ensures.feasible life.before life.behind)

@@ -15,6 +15,9 @@ invariant_of-self c =
     let made = subst (λ (ledger : LedgerRecord). EachBook ledger.book (λ whole. c.fall_level-made.result ≡ level_of (cap_of whole) (rule.fall_claims whole.site))) (sym c.self.view_is) c.fall_level-made.ensures in
     record {
       numbers = kept.numbers;
+      reach_is = kept.reach_is;
+      reach_low = kept.reach_low;
+      claims_are = kept.claims_are;
       sums = record { total = kept.sums.total; each = kept.sums.each; oldest = kept.sums.oldest };
       level = kept.level;
       fall = made life.before life.behind ∙ sym (ap (λ (n : ℕ). level_of n (rule.fall_claims inside.book.site)) its.in_force);

@@ -17,6 +17,9 @@ invariant_of-self c =
     let made = subst (λ (ledger : LedgerRecord). EachBook ledger.book (λ whole. c.level-made.result ≡ level_of (cap_of whole) (rule.claims whole))) (sym c.self.view_is) c.level-made.ensures in
     record {
       numbers = kept.numbers;
+      reach_is = kept.reach_is;
+      reach_low = kept.reach_low;
+      claims_are = kept.claims_are;
       sums = record { total = kept.sums.total; each = kept.sums.each; oldest = kept.sums.oldest };
       level = made life.before life.behind ∙ sym (level_is (book_behind life.before inside.book) inside.moment inside.accounts.items inside.cap its.of_inverters its.in_force);
       fall = kept.fall;

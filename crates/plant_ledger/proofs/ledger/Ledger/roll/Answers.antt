@@ -1,4 +1,5 @@
 use Rattle.std.proofs.Common.{◌≡◌, sym, subst, ap}
+use Rattle.limiter_num.specs.Timers.{reach}
 use Rattle.plant_book.specs.Site.{SiteRecord}
 use Rattle.plant_book.specs.Part.{PartRecord, last_moment_of}
 use Rattle.plant_book.specs.Carry.{EachBefore}
@@ -23,8 +24,11 @@ invariant_of-self c =
     let inside = c.self.inside in
     let life = c.self.invariant.numbers.of_life in
     let begins = (next c life.before life.behind).begins in
-    subst (λ (book : PartRecord). Keeps book inside.moment inside.accounts.items inside.expiries inside.sums inside.cap inside.stopped) (sym c.replace.ensures.after) (record {
+    subst (λ (book : PartRecord). Keeps book inside.moment inside.accounts.items inside.claims.items inside.expiries inside.sums inside.cap inside.stopped inside.reach) (sym c.replace.ensures.after) (record {
       numbers = (rolled c).0;
+      reach_is = subst (λ (site : SiteRecord). inside.reach ≡ reach site.rules) (sym (ap (λ (book : PartRecord). book.site) begins)) c.self.invariant.reach_is;
+      reach_low = c.self.invariant.reach_low;
+      claims_are = c.self.invariant.claims_are;
       sums = c.self.invariant.sums;
       level = c.self.invariant.level;
       fall = subst (λ (site : SiteRecord). IsFallLevel inside.cap site inside.sums.fall) (sym (ap (λ (book : PartRecord). book.site) begins)) c.self.invariant.fall;

@@ -1,7 +1,11 @@
-use Rattle.std.proofs.Common.{◌≡◌, drop, rules, sym, ap, ◌∙◌, arith}
-use Rattle.std.proofs.lemmas.List.{drop-drop}
+use Rattle.std.proofs.Common.{◌∙◌, not, ap}
+use Rattle.plant_book.specs.declared.call.Write as writes
+use Rattle.uncertain_writes.specs.Live.{is_past, most_raw}
+use Rattle.uncertain_writes.proofs.Order.{order-filter}
 use Rattle.uncertain_writes.proofs.live.Live.expire.Goals as goal
 
-pub returns-then-is_first_past_alone-clause-left : goal.returns-then-is_first_past_alone-clause-left
-returns-then-is_first_past_alone-clause-left c =
-    sym (drop-drop 1 c.self.inside.gone c.self.inside.writes.items) ∙ search rules
+pub invariant_of-self : goal.invariant_of-self
+invariant_of-self c = record {
+  greatest = c.most_of-self-inside.ensures ∙ ap most_raw c.kept-2.ensures.writes;
+  order = λ rising. order-filter (λ (write : writes.Write). not (is_past c.args.rules.now c.args.now write)) c.self.inside.writes c.drop_past-count.new.self c.drop_past-count.ensures.left (c.self.invariant.order rising);
+}

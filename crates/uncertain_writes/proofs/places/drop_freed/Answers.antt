@@ -3,7 +3,7 @@ use Rattle.arrayvec.proofs.ArrayVecLemmas.{filter-from_retain}
 use Rattle.plant_book.specs.Writes.{frees}
 use Rattle.uncertain_writes.specs.Live.{without}
 use Rattle.uncertain_writes.proofs.Lists.{length-without}
-use Rattle.uncertain_writes.proofs.live.drop_freed.Goals as goal
+use Rattle.uncertain_writes.proofs.places.drop_freed.Goals as goal
 
 left_by : (c : goal.After-len) → c.retain.new.self.items ≡ without (frees c.args.rules.now (Some c.args.read.now) c.args.raw) c.args.writes.now.items
 left_by c = filter-from_retain _ _ _ (λ x b f' y called. search rules) _ _ c.retain.ensures.filtered

@@ -1,7 +1,7 @@
 use Rattle.std.proofs.Common.{◌≡◌, ◌≤◌, Some, length, take}
 use Rattle.plant_book.specs.Writes.{frees}
 use Rattle.uncertain_writes.specs.Live.{without}
-use Rattle.uncertain_writes.proofs.live.left_by.Given as goal
+use Rattle.uncertain_writes.proofs.places.left_by.Given as goal
 
 abbrev pub invariant-loop-write : goal.invariant-loop-write
 invariant-loop-write l = record {
