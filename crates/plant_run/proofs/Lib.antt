@@ -9,3 +9,4 @@ pub mod Whole
 pub mod Standing
 pub mod Going
 pub mod Linking
+pub mod Agreeing

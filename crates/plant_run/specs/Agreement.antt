@@ -1,5 +1,5 @@
--- What a whole run of a worker has to do with the links of its dialer, link by link.
-use Rattle.std.specs.Prelude.{◌≡◌, ℕ, ◌<◌, Bool, true, false, List, [], ◌∷◌, ◌++◌, Option, Some, length, map, take, if◌then◌else◌}
+-- What a whole run of a worker has to do with the links of its dialer, link by link, and with the book.
+use Rattle.std.specs.Prelude.{◌≡◌, ℕ, ◌+◌, ◌-◌, ◌^◌, ◌<◌, ◌≤◌, Bool, true, false, List, [], ◌∷◌, ◌++◌, Option, Some, length, map, min, take, if◌then◌else◌}
 use Rattle.std.specs.List.{AllByRecursion, concat, flat_map}
 use Rattle.world_traits.specs.Links.{Answer, Bytes, Quiet, Closed, Failed, Link, Links, all_links}
 use Rattle.mbap_frames.specs.declared.frame.Frame.{Frame}
@@ -11,8 +11,16 @@ use Rattle.inverter_worker.specs.declared.input.Input.{Input}
 use Rattle.inverter_worker.specs.declared.input.Input.TheVariants as input
 use Rattle.inverter_worker.specs.declared.output.Output.{Output}
 use Rattle.inverter_worker.specs.declared.output.Output.TheVariants as output
-use Rattle.inverter_worker.specs.Runs.{RunStep}
-use Rattle.worker_turn.specs.Doing.{request_frame}
+use Rattle.inverter_worker.specs.Runs.{RunStep, IsInTime, log}
+use Rattle.plant_book.specs.declared.call.Call.TheVariants as call
+use Rattle.plant_book.specs.Book.{BookRecord}
+use Rattle.worker_turn.specs.Doing.{World, AreDone, request_frame}
+use Rattle.worker_turn.specs.Agreeing.{AreEntriesOf, calls_made, failures}
+use Rattle.worker_turn.specs.Requests.{IsRequested}
+use Rattle.worker_turn.specs.Sights.{IsSeen}
+use Rattle.worker_turn.specs.Turning.{pending}
+use Rattle.plant_run.specs.Own.{entries_of}
+use Rattle.plant_run.specs.Works.{AreTold}
 
 -- an output that was done, with the input that came of it
 pub record Act : Type 0 where
@@ -142,3 +150,30 @@ pub record NewLinksAgree (job : Job) (done : List Act) (before : Links) (links_n
 abbrev pub LinksAgree : Job → List RunStep → (links links_now : Option Links) → Type 0
 LinksAgree job run links links_now = (before : Links) → links ≡ Some before
     → NewLinksAgree job (acts output.Nothing run) before links_now
+
+-- Wherever a run came to a receive, its last request had gone out whole, and what was sent on the link that was up ended
+-- with the frame of that request.
+abbrev pub SendsWhole : Job → List RunStep → (old new : World) → Type 0
+SendsWhole job run old new = (sofar later : List RunStep) → run ≡ sofar ++ later
+    → pending output.Nothing sofar ≡ output.Receive
+    → (here : World) × AreDone job output.Nothing sofar old here × AreDone job output.Receive later here new
+    × IsRequested job sofar here.links
+
+-- Each Saw of a run has a frame that shows it, as the first that answered the read numbered last.
+abbrev pub SeesWhatCame : Job → List RunStep → Type 0
+SeesWhatCame job run = (sofar later : List RunStep) (at inverter number raw : ℕ) → run ≡ sofar ++ later
+    → pending output.Nothing sofar ≡ output.Call (call.Saw at inverter number raw)
+    → IsSeen job sofar at inverter number raw
+
+-- What a worker's run, from its first turn on, has to do with the book and with its dialer. Its calls with their replies
+-- are the book's entries of its inverter. Its dialer's new links agree with it, one by one. Its writes were sent in their
+-- windows, and each request was whole before its reply was waited for. What failed was counted. Each goal is that of the
+-- book after some of its first entries, and each Saw has its frame.
+pub record Agrees (job : Job) (book : BookRecord) (run : List RunStep) (old new : World) : Type 0 where
+  pub calls : AreEntriesOf (calls_made output.Nothing run) (entries_of job.inverter book.entries)
+  pub links : LinksAgree job run old.links new.links
+  pub in_window : AllByRecursion (IsInTime job) (log run)
+  pub requests : SendsWhole job run old new
+  pub counted : min (old.faults + length (failures run)) (2 ^ 64 - 1) ≤ new.faults
+  pub goals : AreTold book job.inverter output.Nothing run 0
+  pub sights : SeesWhatCame job run

@@ -2,14 +2,14 @@
 //! over.
 //!
 //! What one worker did over all its turns stands in `specs/Works.antt`, and what all did together in
-//! `specs/Running.antt`. How the new links of a dialer agree with what its worker did stands in
-//! `specs/Agreement.antt`.
+//! `specs/Running.antt`. How the book and the new links of a dialer agree with what a worker did
+//! stands in `specs/Agreement.antt`.
 #![tactic(auto)]
 
 mod laws;
 mod plain;
 
-pub use laws::links_agree;
+pub use laws::{links_agree, runs_agree};
 pub use plain::run_plain;
 
 #[cfg(test)]
