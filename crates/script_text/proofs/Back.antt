@@ -48,7 +48,7 @@ digits_plain (suc fuel) n rest plain =
       | inr more ↦ rw more (digits_plain fuel (n / 10) (digit_glyph false (n % 10) ∷ rest) (glyph_plain (n % 10) rest plain))
     ]
 
-decimal_plain : (n : ℕ) → is_plain (decimal n) ≡ true
+pub decimal_plain : (n : ℕ) → is_plain (decimal n) ≡ true
 unfolding digits
 decimal_plain n = digits_plain 64 n [] refl
 
