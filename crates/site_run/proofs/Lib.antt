@@ -1,0 +1,5 @@
+pub mod Seats
+pub mod Whole
+pub mod Lines
+pub mod Full
+pub mod Comments
