@@ -7,3 +7,4 @@ pub mod Timers
 pub mod OneTask
 pub mod OneSimulation
 pub mod Simulated
+pub mod Runs

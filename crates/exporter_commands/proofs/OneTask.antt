@@ -4,6 +4,7 @@ use Rattle.std.specs.Fmt.{decimal}
 use Rattle.std.proofs.lemmas.Fmt.{decimal_injective}
 use Rattle.exporter_commands.specs.declared.words.Task.{Task}
 use Rattle.exporter_commands.specs.declared.words.Task.TheVariants as tasks
+use Rattle.exporter_commands.specs.Run.{AreRun}
 use Rattle.exporter_commands.specs.Words.{Ask, IsTask, words_of}
 
 -- a word of a list
@@ -25,3 +26,12 @@ same_task (tasks.Serve i m) (tasks.Commission j) p q e = absurd (omega (arith, a
 
 pub one_task : (words : List (List ℕ)) (a b : Task) → Ask words a → Ask words b → a ≡ b
 one_task words a b p q = same_task a b p.0 q.0 (sym p.1 ∙ q.1)
+
+-- the words of a run ask for one, and for no task
+
+pub one_run : (words : List (List ℕ)) (a b : ℕ) → AreRun words a → AreRun words b → a ≡ b
+one_run words a b p q = one_decimal a b p.few q.few (ap (word 1) (sym p.words_are ∙ q.words_are))
+
+pub no_run : (words : List (List ℕ)) (task : Task) (turns : ℕ) → Ask words task → AreRun words turns → ⊥
+no_run words (tasks.Commission inverter) turns p q = omega (arith, ap (λ (ws : List (List ℕ)). length (word 0 ws)) (sym p.1 ∙ q.words_are))
+no_run words (tasks.Serve inverter many) turns p q = omega (arith, ap length (sym p.1 ∙ q.words_are))

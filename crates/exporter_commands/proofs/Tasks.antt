@@ -325,7 +325,7 @@ abbrev OneFile : Type 0
 OneFile = (bytes : List ℕ) (a b : SiteFileRecord) → IsSiteFile bytes a → IsSiteFile bytes b → a ≡ b
 
 -- where the inverter is there, it isn't found only for want of memory
-not_found_of : NotBoth → (ended : Ended) (read : List ℕ) (site : Change) → FindsNoSite ended read site
+pub not_found_of : NotBoth → (ended : Ended) (read : List ℕ) (site : Change) → FindsNoSite ended read site
     → IfSome site.old (λ bytes. length bytes ≤ site_limit → (file : SiteFileRecord) → IsSiteFile bytes file → (Fails site → ⊥) → ended ≡ ends.NoMemory)
 not_found_of not_both (ends.BadSite fault) read site row =
     if_some_more site.old (λ bytes. IsRefused bytes fault) _ (λ bytes refused short file is no_fault. absurd (not_both bytes file fault is refused))
@@ -423,7 +423,7 @@ lacking not_both one may_give task read site output dialing ended end =
 abbrev OneFault : Type 0
 OneFault = (bytes : List ℕ) (f g : SiteFault) → IsRefused bytes f → IsRefused bytes g → f ≡ g
 
-refused_of : NotBoth → OneFault → (ended : Ended) (read : List ℕ) (site : Change) → FindsNoSite ended read site
+pub refused_of : NotBoth → OneFault → (ended : Ended) (read : List ℕ) (site : Change) → FindsNoSite ended read site
     → IfSome site.old (λ bytes. length bytes ≤ site_limit → (fault : SiteFault) → IsRefused bytes fault → (Fails site → ⊥)
     → (ended ≡ ends.BadSite fault) ⊎ (ended ≡ ends.NoMemory))
 refused_of not_both one (ends.BadSite found) read site row =
@@ -442,7 +442,7 @@ refused_of not_both one (ends.BadLine line kind) read site row = absurd row
 refused_of not_both one (ends.Refused fault) read site row = absurd row
 
 -- a site file that was read has no fault
-read_not_refused : NotBoth → (file : SiteFileRecord) (ended : Ended) (read : List ℕ) (site : Change) → ReadsSite file read site
+pub read_not_refused : NotBoth → (file : SiteFileRecord) (ended : Ended) (read : List ℕ) (site : Change) → ReadsSite file read site
     → IfSome site.old (λ bytes. length bytes ≤ site_limit → (fault : SiteFault) → IsRefused bytes fault → (Fails site → ⊥)
     → (ended ≡ ends.BadSite fault) ⊎ (ended ≡ ends.NoMemory))
 read_not_refused not_both file ended read site reads =
@@ -469,13 +469,13 @@ refused not_both one may_give task read site output dialing ended end =
     ]
 
 -- a site file that was read isn't too long
-read_not_beyond : (file : SiteFileRecord) (ended : Ended) (read : List ℕ) (site : Change) → ReadsSite file read site
+pub read_not_beyond : (file : SiteFileRecord) (ended : Ended) (read : List ℕ) (site : Change) → ReadsSite file read site
     → IfSome site.old (λ bytes. site_limit < length bytes → (Fails site → ⊥) → (ended ≡ ends.TooLong site_limit) ⊎ (ended ≡ ends.NoMemory))
 read_not_beyond file ended read site reads =
     if_some_more site.old (λ bytes. length bytes ≤ site_limit) _ (λ bytes short long no_fault. absurd (omega (arith, short, long)))
     (told_whole site.old site.new read (λ bytes. length bytes ≤ site_limit) reads.whole.bytes reads.whole.at_end reads.whole.within)
 
-beyond_of : (ended : Ended) (read : List ℕ) (site : Change) → FindsNoSite ended read site
+pub beyond_of : (ended : Ended) (read : List ℕ) (site : Change) → FindsNoSite ended read site
     → IfSome site.old (λ bytes. site_limit < length bytes → (Fails site → ⊥) → (ended ≡ ends.TooLong site_limit) ⊎ (ended ≡ ends.NoMemory))
 beyond_of (ends.BadSite found) read site row =
     if_some_more site.old (λ bytes. length bytes ≤ site_limit) _ (λ bytes short long no_fault. absurd (omega (arith, short, long)))

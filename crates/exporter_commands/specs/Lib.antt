@@ -11,3 +11,4 @@ pub mod Finding
 pub mod Commission
 pub mod Serve
 pub mod Live
+pub mod Run

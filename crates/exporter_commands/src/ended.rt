@@ -24,7 +24,7 @@ pub enum Ended {
     },
     /// The site file is at fault, and this is its first fault; or no book is opened of the site of a script.
     BadSite(SiteFault),
-    /// A book of a script had no room for the next call line.
+    /// A book had no room for the next call: for the next call line of a script, or for a worker's in a run.
     BookFull {
         /// The calls of the book, which are its room.
         calls: u32,

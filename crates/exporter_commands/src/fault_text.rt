@@ -2,24 +2,11 @@
 //! space between two. A nested fault stands behind what holds it.
 use crate::live_fault::LiveFault;
 use commissioning::CommissionFault;
-use limiter_num::{Point, RatingFault};
+use limiter_num::RatingFault;
 use site_config::{Key, SiteFault};
+use site_run::point_name;
 use std::fmt;
 use std::fmt::Formatter;
-
-fn point_name(point: Point) -> &'static str {
-    match point {
-        Point::WMax => "wmax",
-        Point::WSf => "wsf",
-        Point::PctSf => "pctsf",
-        Point::Base => "base",
-        Point::Ena => "ena",
-        Point::Pct => "pct",
-        Point::PctRvrt => "pctrvrt",
-        Point::EnaRvrt => "enarvrt",
-        Point::RvrtTms => "rvrttms",
-    }
-}
 
 /// The key without the dash that the site file has in it.
 fn key_name(key: Key) -> &'static str {

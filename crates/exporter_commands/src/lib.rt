@@ -1,7 +1,7 @@
 //! The commands of the program, over any input, output, links and clock.
 //!
-//! `plain` does those that need no link: `replay`, `check` and `simulate`. `live` does those over links: `commission`
-//! and `serve`. Their contracts say all that the program does; `exporter` hands them the real world.
+//! `plain` does those that need no link: `replay`, `check` and `simulate`. `live` does those over links: `run`,
+//! `commission` and `serve`. Their contracts say all that the program does; `exporter` hands them the real world.
 #![tactic(auto)]
 
 mod check;
@@ -16,6 +16,7 @@ mod live_fault;
 mod output;
 mod plain_commands;
 mod replay;
+mod run;
 mod serve;
 mod simulate;
 mod site;

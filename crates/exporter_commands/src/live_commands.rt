@@ -9,7 +9,7 @@ ghost use Rattle.site_config.specs.declared.fault.SiteFault.{SiteFault};
 ghost use Rattle.site_config.specs.SiteFile.{SiteFileRecord, IsSiteFile, IsRefused};
 ghost use Rattle.commissioning.specs.declared.fault.CommissionFault.{CommissionFault};
 ghost use Rattle.commission_run.specs.declared.job.Job.{Job};
-ghost use Rattle.exporter_commands.specs.Streams.{change, GainsNothing};
+ghost use Rattle.exporter_commands.specs.Streams.{change, GainsNothing, GainsText};
 ghost use Rattle.exporter_commands.specs.Site.{site_limit};
 ghost use Rattle.exporter_commands.specs.Words.{Ask};
 ghost use Rattle.exporter_commands.specs.Dialing.{DialsNothing, FailsToDial, FailsToReceive, FaultsAt};
@@ -17,12 +17,14 @@ ghost use Rattle.exporter_commands.specs.Dialing.{HasBadFrame, HeardLast, MakesL
 ghost use Rattle.exporter_commands.specs.Finding.{IsJob};
 ghost use Rattle.exporter_commands.specs.Live.{HasInverter, HearsReplies, IsRefusedBy, IsTaskEnd};
 ghost use Rattle.exporter_commands.specs.Live.{LacksInverter, inverter_of};
+ghost use Rattle.exporter_commands.specs.Run.{AreRun, IsRunEnd, TellsSafeLife};
 
 use crate::commission::commission;
 use crate::ended::Ended;
 use crate::live_fault::LiveFault;
+use crate::run::run;
 use crate::serve::serve;
-use crate::words::{Task, task_of};
+use crate::words::{Task, task_of, turns_of_run};
 use site_config::one_meaning;
 use std::alloc::Global;
 use world_traits::{Clock, Dialer, Sink, Source};
@@ -65,10 +67,11 @@ fn run_with_first<S: Source, O: Sink, N: Dialer, K: Clock>(
     run_task(alloc, task, site, out, &mut dialers[0], clock)
 }
 
-/// Does over links what the words of the command line ask for. `commission I` reads the site file, and
-/// commissions the inverter of this number over the first dialer. `serve I T` reads it too, and serves a
-/// simulation of that inverter in so many turns. The console is for a run of the plant. It may wait, as the
-/// dialers and the clock may.
+/// Does over links what the words of the command line ask for; each task reads the site file first. `run T` runs the
+/// plant: a worker of so many turns keeps the limit of each inverter over the dialer of its number, and then the text
+/// of the book is written, and how each worker ended. `commission I` commissions the inverter of this number over the
+/// first dialer, and `serve I T` serves a simulation of it in so many turns. The console isn't read yet. It may wait,
+/// as the dialers and the clock may.
 pub fn live<S: Source, C: Source + Send, O: Sink + Send, N: Dialer + Send, K: Clock + Sync>(
     alloc: Global,
     words: &Vec<String>,
@@ -82,12 +85,24 @@ pub fn live<S: Source, C: Source + Send, O: Sink + Send, N: Dialer + Send, K: Cl
 
     // The words are at fault exactly where they ask for nothing; then nothing is done.
     ensures bad_words { result ≡ Ended.BadWords
-        ↔ ((task : Task) → Ask (map string_bytes words.now.items) task → ⊥) }
+        ↔ ((task : Task) → Ask (map string_bytes words.now.items) task → ⊥)
+        × ((turns : ℕ) → AreRun (map string_bytes words.now.items) turns → ⊥) }
     ensures untouched { result ≡ Ended.BadWords
         → (site.new ≡ site.old) × (out.new ≡ out.old) × (dialers.new.items ≡ dialers.old.items) }
     ensures console { console.new ≡ console.old }
-    ensures other_dialers { drop 1 dialers.new.items ≡ drop 1 dialers.old.items }
+    ensures other_dialers { ((turns : ℕ) → AreRun (map string_bytes words.now.items) turns → ⊥)
+        → drop 1 dialers.new.items ≡ drop 1 dialers.old.items }
     ensures as_many { length dialers.new.items ≡ 64 }
+
+    // What each end of a run says, for the bytes that were read: its cause, the life and what each worker did over
+    // its links, and what was written. The life that is told of is safe at every moment.
+    ensures run_ends { (turns : ℕ) → AreRun (map string_bytes words.now.items) turns
+        → (read : List ℕ) × IsRunEnd N.links N.faults (K.may_give clock.now) turns read
+        (change S.left S.faults site.old site.new) (change O.taken O.faults out.old out.new)
+        dialers.old.items dialers.new.items result }
+    ensures run_safe { (turns : ℕ) → AreRun (map string_bytes words.now.items) turns
+        → (result ≡ Ended.Done) ⊎ ((calls : ℕ) × (result ≡ Ended.BookFull calls))
+        → GainsText TellsSafeLife (change O.taken O.faults out.old out.new) }
 
     // What each end of a task says, for the bytes that were read: its cause, what passed over the links, and
     // what was written.
@@ -148,6 +163,24 @@ pub fn live<S: Source, C: Source + Send, O: Sink + Send, N: Dialer + Send, K: Cl
         → (FaultsAt (first_dialing N.links N.faults dialers.old.items dialers.new.items) → ⊥)
         → (result ≡ Ended.Done) ⊎ (result ≡ Ended.NoMemory)) }
 
+    // A site file, and no rise of a count of faults: `run` is done, or a worker found the book full.
+    ensures run_complete { (turns : ℕ) → AreRun (map string_bytes words.now.items) turns
+        → IfSome (S.left site.old) (λ bytes. length bytes ≤ site_limit
+        → (file : SiteFileRecord) → IsSiteFile bytes file
+        → (Rose (S.faults site.old) (S.faults site.new) → ⊥)
+        → (Rose (O.faults out.old) (O.faults out.new) → ⊥)
+        → (result ≡ Ended.Done)
+        ⊎ ((result ≡ Ended.NoMemory) ⊎ ((calls : ℕ) × (result ≡ Ended.BookFull calls)))) }
+    ensures run_refused { (turns : ℕ) → AreRun (map string_bytes words.now.items) turns
+        → IfSome (S.left site.old) (λ bytes. length bytes ≤ site_limit
+        → (fault : SiteFault) → IsRefused bytes fault
+        → (Rose (S.faults site.old) (S.faults site.new) → ⊥)
+        → (result ≡ Ended.BadSite fault) ⊎ (result ≡ Ended.NoMemory)) }
+    ensures run_beyond { (turns : ℕ) → AreRun (map string_bytes words.now.items) turns
+        → IfSome (S.left site.old) (λ bytes. site_limit < length bytes
+        → (Rose (S.faults site.old) (S.faults site.new) → ⊥)
+        → (result ≡ Ended.TooLong site_limit) ⊎ (result ≡ Ended.NoMemory)) }
+
     // A site file that lacks the inverter is refused, and so is one with a fault, or one that is too
     // long.
     ensures lacking { (task : Task) → Ask (map string_bytes words.now.items) task
@@ -170,6 +203,9 @@ pub fn live<S: Source, C: Source + Send, O: Sink + Send, N: Dialer + Send, K: Cl
     one_meaning();
     match task_of(words) {
         Some(task) => run_with_first(alloc, task, site, out, dialers, clock),
-        None => Ended::BadWords,
+        None => match turns_of_run(words) {
+            Some(turns) => run(alloc, turns, site, out, dialers, clock),
+            None => Ended::BadWords,
+        },
     }
 }

@@ -3,6 +3,7 @@ ghost use Rattle.std.specs.Prelude.{◌≡◌, ◌<◌, ◌≤◌, ◌^◌, ℕ,
 ghost use Rattle.std.specs.String.{string_bytes};
 ghost use Rattle.std.specs.Fmt.{decimal};
 ghost use Rattle.exporter_commands.specs.Words.{Ask};
+ghost use Rattle.exporter_commands.specs.Run.{AreRun};
 
 use itoa::Buffer;
 
@@ -87,6 +88,29 @@ fn task_of_three(name: &str, inverter: &str, turns: &str) -> Option<Task>
             let turns = turns as u32;
             Some(Task::Serve { inverter, turns })
         }
+        _ => None,
+    }
+}
+
+/// How many turns each worker makes in the run of two words.
+fn turns_of(name: &str, turns: &str) -> Option<u32>
+    ensures some { IfSome result (AreRun (name.now ∷ turns.now ∷ [])) }
+    ensures none { IfNone result ((asked : ℕ) → AreRun (name.now ∷ turns.now ∷ []) asked → ⊥) }
+{
+    if name != "run" {
+        return None;
+    }
+    let turns = number_of(turns, 1, TURNS_MAX)?;
+    Some(turns as u32)
+}
+
+/// How many turns each worker makes in the run that the words ask for, if they ask for one.
+pub fn turns_of_run(words: &Vec<String>) -> Option<u32>
+    ensures some { IfSome result (AreRun (map string_bytes words.now.items)) }
+    ensures none { IfNone result ((turns : ℕ) → AreRun (map string_bytes words.now.items) turns → ⊥) }
+{
+    match words.as_slice() {
+        [name, turns] => turns_of(name.as_str(), turns.as_str()),
         _ => None,
     }
 }

@@ -1,11 +1,12 @@
-use Rattle.std.proofs.Common.{map, subst}
+use Rattle.std.proofs.Common.{ℕ, map, subst}
 use Rattle.std.specs.String.{string_bytes}
 use Rattle.exporter_commands.specs.declared.words.Task.{Task}
 use Rattle.exporter_commands.specs.declared.words.Task.TheVariants as tasks
 use Rattle.exporter_commands.specs.Streams.{change}
 use Rattle.exporter_commands.specs.Dialing.{first_dialing}
 use Rattle.exporter_commands.specs.Live.{IsTaskEnd}
-use Rattle.exporter_commands.proofs.OneTask.{one_task}
+use Rattle.exporter_commands.specs.Run.{IsRunEnd}
+use Rattle.exporter_commands.proofs.OneTask.{one_task, one_run, no_run}
 use Rattle.exporter_commands.proofs.Tasks as said
 use Rattle.exporter_commands.proofs.live_commands.live.Goals as goal
 
@@ -103,8 +104,11 @@ returns-in-Some-clause-commission_complete g c = λ inverter asked. said.commiss
     (change g.S.Source.left g.S.Source.faults c.args.site.now c.run_with_first.new.site) (change g.O.Sink.taken g.O.Sink.faults c.args.out.now c.run_with_first.new.out)
     (first_dialing g.N.Dialer.links g.N.Dialer.faults c.args.dialers.now.items c.run_with_first.new.dialers.items) c.run_with_first.result (returns-in-Some-clause-ends g c (tasks.Commission inverter) asked).1
 
-pub returns-in-None-clause-serve_complete : goal.returns-in-None-clause-serve_complete
-returns-in-None-clause-serve_complete g c = λ inverter turns asked. absurd (c.in-None.ensures.none (tasks.Serve inverter turns) asked)
+pub returns-in-Some-turns_of_run-clause-serve_complete : goal.returns-in-Some-turns_of_run-clause-serve_complete
+returns-in-Some-turns_of_run-clause-serve_complete g c = λ inverter turns asked. absurd (c.in-None.ensures.none (tasks.Serve inverter turns) asked)
+
+pub returns-in-None-turns_of_run-clause-serve_complete : goal.returns-in-None-turns_of_run-clause-serve_complete
+returns-in-None-turns_of_run-clause-serve_complete g c = λ inverter turns asked. absurd (c.in-None.ensures.none (tasks.Serve inverter turns) asked)
 
 pub returns-in-Some-clause-refused : goal.returns-in-Some-clause-refused
 unfolding returns-in-Some-clause-ends
@@ -117,3 +121,27 @@ unfolding returns-in-Some-clause-ends
 returns-in-Some-clause-beyond g c = λ task asked. said.beyond (g.K.Clock.may_give c.args.clock.now) task c.run_with_first.ensures.ends.0
     (change g.S.Source.left g.S.Source.faults c.args.site.now c.run_with_first.new.site) (change g.O.Sink.taken g.O.Sink.faults c.args.out.now c.run_with_first.new.out)
     (first_dialing g.N.Dialer.links g.N.Dialer.faults c.args.dialers.now.items c.run_with_first.new.dialers.items) c.run_with_first.result (returns-in-Some-clause-ends g c task asked).1
+
+pub returns-in-Some-clause-run_ends : goal.returns-in-Some-clause-run_ends
+returns-in-Some-clause-run_ends g c = λ turns asked. absurd (no_run (map string_bytes c.args.words.now.items) c.in-Some.task turns c.in-Some.ensures.some asked)
+
+pub returns-in-Some-clause-run_safe : goal.returns-in-Some-clause-run_safe
+returns-in-Some-clause-run_safe g c = λ turns asked. absurd (no_run (map string_bytes c.args.words.now.items) c.in-Some.task turns c.in-Some.ensures.some asked)
+
+pub returns-in-Some-clause-run_complete : goal.returns-in-Some-clause-run_complete
+returns-in-Some-clause-run_complete g c = λ turns asked. absurd (no_run (map string_bytes c.args.words.now.items) c.in-Some.task turns c.in-Some.ensures.some asked)
+
+pub returns-in-Some-clause-run_refused : goal.returns-in-Some-clause-run_refused
+returns-in-Some-clause-run_refused g c = λ turns asked. absurd (no_run (map string_bytes c.args.words.now.items) c.in-Some.task turns c.in-Some.ensures.some asked)
+
+pub returns-in-Some-clause-run_beyond : goal.returns-in-Some-clause-run_beyond
+returns-in-Some-clause-run_beyond g c = λ turns asked. absurd (no_run (map string_bytes c.args.words.now.items) c.in-Some.task turns c.in-Some.ensures.some asked)
+
+pub returns-in-Some-turns_of_run-clause-run_ends : goal.returns-in-Some-turns_of_run-clause-run_ends
+returns-in-Some-turns_of_run-clause-run_ends g c = λ turns asked. (
+  c.run.ensures.ends.0,
+  subst (λ (n : ℕ). IsRunEnd g.N.Dialer.links g.N.Dialer.faults (g.K.Clock.may_give c.args.clock.now) n c.run.ensures.ends.0
+      (change g.S.Source.left g.S.Source.faults c.args.site.now c.run.new.site) (change g.O.Sink.taken g.O.Sink.faults c.args.out.now c.run.new.out)
+      c.args.dialers.now.items c.run.new.dialers.items c.run.result)
+      (one_run (map string_bytes c.args.words.now.items) c.in-Some-turns_of_run.turns turns c.in-Some-turns_of_run.ensures.some asked) c.run.ensures.ends.1,
+)
