@@ -1,6 +1,8 @@
 mod links;
 mod loopback;
+mod plants;
 mod refusals;
+mod runs;
 
 use exporter_commands::{Ended, plain};
 use std::alloc::{AllocError, Global};
@@ -51,6 +53,15 @@ fn run(alloc: Global, line: &str, read: u32, write: u32) -> Result<(Ended, Bytes
     let mut output = BytesSink::new(alloc, vec![in alloc; write]?);
     let ended = plain(alloc, &words, &mut input, &mut output);
     Ok((ended, output))
+}
+
+/// What `plain` writes where it replays these bytes.
+fn replayed(alloc: Global, script: &[u8]) -> Result<BytesSink, Fail> {
+    let words = words(alloc, "replay")?;
+    let mut input = BytesSource::new(Vec::from_slice(alloc, script)?, Vec::new(alloc));
+    let mut output = BytesSink::new(alloc, Vec::new(alloc));
+    let _ = plain(alloc, &words, &mut input, &mut output);
+    Ok(output)
 }
 
 #[test]

@@ -46,25 +46,20 @@ const FIRST_READ: [u8; 12] = [0, 1, 0, 0, 0, 6, 1, 3, 0x9C, 0x40, 0, 2];
 /// Its reply.
 const FIRST_REPLY: [u8; 13] = [0, 1, 0, 0, 0, 7, 1, 3, 4, 0x53, 0x75, 0x6E, 0x53];
 
-/// The site file.
-fn site(alloc: Global) -> Result<BytesSource, Fail> {
-    let text = Vec::from_slice(alloc, SITE.as_bytes())?;
-    Ok(BytesSource::new(text, Vec::new(alloc)))
-}
-
-/// How `live` ends with these words and 64 dialers, and what it writes.
-fn run<N: Dialer + Send>(
+/// How `live` ends with these words, this site file and 64 dialers, and what it writes.
+pub fn run_over<N: Dialer + Send>(
     rt: &impl Abort,
     alloc: Global,
+    site: &str,
     line: &str,
     dialers: &mut Vec<N>,
+    clock: &StepClock,
 ) -> Result<(Ended, BytesSink), Fail> {
     assert!(rt; dialers.len() == 64);
     let words = words(alloc, line)?;
-    let mut site = site(alloc)?;
+    let mut site = BytesSource::new(Vec::from_slice(alloc, site.as_bytes())?, Vec::new(alloc));
     let mut console = BytesSource::new(Vec::new(alloc), Vec::new(alloc));
     let mut out = BytesSink::new(alloc, Vec::new(alloc));
-    let clock = StepClock::new(0, 1);
     let ended = live(
         alloc,
         &words,
@@ -72,16 +67,26 @@ fn run<N: Dialer + Send>(
         &mut console,
         &mut out,
         dialers,
-        &clock,
+        clock,
     );
     Ok((ended, out))
 }
 
-/// A simulation of the inverter.
-fn bank(rt: &impl Abort) -> Result<Bank, Fail>
+/// The same with the site of one inverter.
+fn run<N: Dialer + Send>(
+    rt: &impl Abort,
+    alloc: Global,
+    line: &str,
+    dialers: &mut Vec<N>,
+) -> Result<(Ended, BytesSink), Fail> {
+    run_over(rt, alloc, SITE, line, dialers, &StepClock::new(0, 1))
+}
+
+/// A simulation of an inverter of this many watts.
+pub fn bank(rt: &impl Abort, watts: u16) -> Result<Bank, Fail>
     ensures { IfOk result (λ bank. bank.last ≡ 0) }
 {
-    let rating = Rating::new(6_000, 0, -1).ok().ok_or("rating")?;
+    let rating = Rating::new(watts, 0, -1).ok().ok_or("rating")?;
     let unit = Unit::new(rating, 100).ok().ok_or("floor")?;
     let rules = Rules::new(1_000, 4_000, 60, 20, 500).ok().ok_or("rules")?;
     let after = rules.tmax();
@@ -97,7 +102,7 @@ fn devices<'c>(
 ) -> Result<Vec<DeviceDialer<'c, StepClock>>, Fail> {
     let mut dialers = Vec::new(alloc);
     for _ in 0..64 {
-        let bank = bank(rt)?;
+        let bank = bank(rt, 6_000)?;
         dialers.push(DeviceDialer::new(alloc, bank, clock, Vec::new(alloc)))?;
     }
     Ok(dialers)

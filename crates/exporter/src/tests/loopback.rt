@@ -7,7 +7,7 @@ use std::test::Fail;
 use std::thread;
 use world_traits::{BytesSink, BytesSource, Clock};
 
-/// A site of one inverter on this machine.
+/// A site of one inverter on this machine, but for its port.
 const SITE: &str = "cap = 10000000
 send = 1000
 delay = 4000
@@ -21,7 +21,6 @@ book = 2000
 policy = \"open\"
 [[inverter]]
 host = \"127.0.0.1\"
-port = 15629
 unit = 1
 base = 40296
 wmax = 6000
@@ -30,15 +29,17 @@ psf = -1
 floor = 100
 ";
 
-/// How `live` ends with these words, where links come about in this way.
+/// How `live` ends with these words, where links to this port come about in this way.
 fn run<C: Opener<Runtime = HostRuntime> + Send, K: Clock + Sync>(
     rt: &HostRuntime,
     clock: &K,
+    port: u16,
     line: &str,
 ) -> Result<Ended, AllocError> {
     let alloc = rt.alloc();
     let words = words(alloc, line)?;
-    let mut site = BytesSource::new(Vec::from_slice(alloc, SITE.as_bytes())?, Vec::new(alloc));
+    let text = format!(in alloc; "{SITE}port = {port}\n")?;
+    let mut site = BytesSource::new(Vec::from_slice(alloc, text.as_bytes())?, Vec::new(alloc));
     let mut console = BytesSource::new(Vec::new(alloc), Vec::new(alloc));
     let mut out = BytesSink::new(alloc, Vec::new(alloc));
     let mut dialers = TcpDialer::<C>::many(alloc, *rt, 64)?;
@@ -56,7 +57,7 @@ fn run<C: Opener<Runtime = HostRuntime> + Send, K: Clock + Sync>(
 /// How `commission` ends, once the inverter listens.
 fn commission<K: Clock + Sync>(rt: &HostRuntime, clock: &K) -> Result<Ended, AllocError> {
     for _ in 0..100 {
-        let ended = run::<Calling<HostRuntime>, K>(rt, clock, "commission 0")?;
+        let ended = run::<Calling<HostRuntime>, K>(rt, clock, 15629, "commission 0")?;
         if ended != Ended::Refused(LiveFault::Dial) {
             return Ok(ended);
         }
@@ -70,10 +71,23 @@ fn an_inverter_that_is_served_is_commissioned(rt: HostRuntime) -> Result<(), Fai
     let clock = BootClock::new(rt);
     let (served, commissioned) = thread::join(
         &rt,
-        || run::<Listening<HostRuntime>, BootClock<HostRuntime>>(&rt, &clock, "serve 0 40"),
+        || run::<Listening<HostRuntime>, BootClock<HostRuntime>>(&rt, &clock, 15629, "serve 0 40"),
         || commission(&rt, &clock),
     );
     assert_eq!(rt; served?, Ended::Done);
     assert_eq!(rt; commissioned?, Ended::Done);
+    Ok(())
+}
+
+#[test]
+fn an_inverter_that_is_served_is_kept_under_the_cap(rt: HostRuntime) -> Result<(), Fail> {
+    let clock = BootClock::new(rt);
+    let (served, ran) = thread::join(
+        &rt,
+        || run::<Listening<HostRuntime>, BootClock<HostRuntime>>(&rt, &clock, 15630, "serve 0 40"),
+        || run::<Calling<HostRuntime>, BootClock<HostRuntime>>(&rt, &clock, 15630, "run 3"),
+    );
+    assert_eq!(rt; served?, Ended::Done);
+    assert_eq!(rt; ran?, Ended::Done);
     Ok(())
 }

@@ -1,0 +1,159 @@
+//! `run` over simulated inverters in memory.
+ghost use Rattle.std.specs.Prelude.{◌≡◌, ◌≤◌, IfSome};
+
+use super::links::{bank, run_over};
+use super::replayed;
+use exporter_commands::Ended;
+use plant_simulator::{CutDialer, DeviceDialer};
+use std::alloc::{AllocError, Global};
+use std::process::Abort;
+use std::test::Fail;
+use world_traits::{Link, StepClock};
+
+/// What a site file has before its inverters.
+const SITE: &str = "cap = 10000000
+send = 1000
+delay = 4000
+timer = 60
+per_mille = 20
+slack = 500
+renew = 20000
+pause = 1000
+wait = 2000
+book = 2000
+policy = \"open\"
+";
+
+/// The site file of a plant of twelve, which doesn't give all of them their rating.
+const LARGE_SITE: &str = "cap = 400000000
+send = 1000
+delay = 4000
+timer = 60
+per_mille = 20
+slack = 500
+renew = 20000
+pause = 1000
+wait = 2000
+book = 100000
+policy = \"fair\"
+";
+
+/// What the first 7 bytes of a write's frame end with: the protocol, the length and the unit number.
+const CUT_END: [u8; 5] = [0, 0, 0, 19, 1];
+
+/// How many bytes the frame of a read-back has.
+const READ_BYTES: usize = 12;
+
+/// The site file with so many inverters of this many watts.
+fn site(alloc: Global, begin: &str, inverters: u16, watts: u16) -> Result<String, AllocError> {
+    let mut text = String::from_str(alloc, begin)?;
+    for inverter in 0..inverters {
+        let port = 5_020 + inverter % 64;
+        let table = format!(in alloc;
+            "[[inverter]]
+host = \"localhost\"
+port = {port}
+unit = 1
+base = 40296
+wmax = {watts}
+wsf = 0
+psf = -1
+floor = 100
+"
+        )?;
+        text.push_str(table.as_str())?;
+    }
+    Ok(text)
+}
+
+/// A dialer whose links reach a simulation of an inverter of this many watts.
+fn device<'c>(
+    rt: &impl Abort,
+    alloc: Global,
+    watts: u16,
+    clock: &'c StepClock,
+) -> Result<DeviceDialer<'c, StepClock>, Fail> {
+    Ok(DeviceDialer::new(alloc, bank(rt, watts)?, clock, Vec::new(alloc)))
+}
+
+/// 64 dialers that reach simulations of inverters of 6 kW, of which the first cuts a frame.
+fn cut_dialers<'c>(
+    rt: &impl Abort,
+    alloc: Global,
+    clock: &'c StepClock,
+) -> Result<Vec<CutDialer<DeviceDialer<'c, StepClock>>>, Fail> {
+    let first = CutDialer::new(device(rt, alloc, 6_000, clock)?, Some(7));
+    let mut dialers = vec![in alloc; first]?;
+    for _ in 1..64 {
+        dialers.push(CutDialer::new(device(rt, alloc, 6_000, clock)?, None))?;
+    }
+    Ok(dialers)
+}
+
+/// Whether the frames of read-backs were sent on a link, and then the first 7 bytes of a write's.
+fn is_cut(link: &Link) -> bool {
+    link.sent().len() % READ_BYTES == 7 && link.sent().ends_with(&CUT_END)
+}
+
+#[test]
+fn a_write_that_was_cut_short(rt: HostRuntime) -> Result<(), Fail> {
+    let alloc = rt.alloc();
+    let clock = StepClock::new(0, 1);
+    let mut dialers = cut_dialers(&rt, alloc, &clock)?;
+    let site = site(alloc, SITE, 2, 6_000)?;
+    let (ended, out) = run_over(&rt, alloc, site.as_str(), "run 200", &mut dialers, &clock)?;
+    assert_eq!(rt; ended, Ended::Done);
+    let log = dialers.first().ok_or("the first dialer")?.inner().log();
+    let cut = log.link(0).is_some_and(is_cut);
+    assert!(rt; cut && log.count() == 2);
+    let book = out
+        .taken()
+        .strip_suffix(b"# worker 0 turns\n# worker 1 turns\n");
+    let book = book.ok_or("the ends of the workers")?;
+    let again = replayed(alloc, out.taken())?;
+    assert!(rt; again.taken() == book);
+    Ok(())
+}
+
+/// 64 dialers that reach simulations of inverters of 50 kW.
+fn devices<'c>(
+    rt: &impl Abort,
+    alloc: Global,
+    clock: &'c StepClock,
+) -> Result<Vec<DeviceDialer<'c, StepClock>>, Fail> {
+    let mut dialers = Vec::new(alloc);
+    for _ in 0..64 {
+        dialers.push(device(rt, alloc, 50_000, clock)?)?;
+    }
+    Ok(dialers)
+}
+
+/// The raw percentage of the first write that an inverter of this number is granted.
+fn first_granted<'t>(text: &'t str, inverter: u8) -> Option<&'t str> {
+    for line in text.lines() {
+        let mut words = line.split(' ');
+        if words.next() == Some("ask")
+            && words.nth(1).and_then(|word| word.parse::<u8>().ok()) == Some(inverter)
+            && line.contains("granted")
+        {
+            return words.next();
+        }
+    }
+    None
+}
+
+#[test]
+fn a_plant_of_twelve(rt: HostRuntime) -> Result<(), Fail> {
+    let alloc = rt.alloc();
+    let clock = StepClock::new(0, 1);
+    let mut dialers = devices(&rt, alloc, &clock)?;
+    let site = site(alloc, LARGE_SITE, 12, 50_000)?;
+    let (ended, out) = run_over(&rt, alloc, site.as_str(), "run 1000", &mut dialers, &clock)?;
+    assert_eq!(rt; ended, Ended::Done);
+    let text = std::str::from_utf8(out.taken()).ok().ok_or("text")?;
+    assert!(rt; !text.contains("crowded"));
+    for inverter in 0..12 {
+        assert_eq!(rt; first_granted(text, inverter), Some("666"));
+    }
+    Ok(())
+}
