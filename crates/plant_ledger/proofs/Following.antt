@@ -296,3 +296,32 @@ first_is_account site start inverter otherwise of_site =
           (first_of site start inverter found.0 found.2)
       | inr past ↦ absurd (omega (arith, past.0))
     ]
+
+-- an account keeps its inverter
+pub unit_stays : (rules : Rules) (call : Call) (reply : Reply) (account : Account) → (after_call rules call reply account).unit ≡ account.unit
+unit_stays rules (calls.Link at inverter) reply account = refl
+unit_stays rules (calls.Ask at inverter raw) reply account = by_ask reply
+  where
+    by_ask : (r : Reply) → (after_ask r account).unit ≡ account.unit
+    by_ask (replies.Granted write) = refl
+    by_ask _ = refl
+unit_stays rules (calls.Read at inverter) reply account = by_read reply
+  where
+    by_read : (r : Reply) → (after_read r account).unit ≡ account.unit
+    by_read (replies.ReadAs read) = refl
+    by_read _ = refl
+unit_stays rules (calls.Saw at inverter number raw) reply account = by_saw reply
+  where
+    by_saw : (r : Reply) → (after_saw rules raw r account).unit ≡ account.unit
+    by_saw (replies.Freed count reserved) = refl
+    by_saw (replies.Strange seen) = refl
+    by_saw _ = refl
+unit_stays rules (calls.Back at inverter link number) reply account = by_back reply
+  where
+    by_back : (r : Reply) → (after_back link number r account).unit ≡ account.unit
+    by_back replies.Taken = refl
+    by_back _ = refl
+unit_stays rules (calls.Want at inverter mw) reply account = refl
+unit_stays rules (calls.Tick at) reply account = refl
+unit_stays rules (calls.Stop at) reply account = refl
+unit_stays rules (calls.Cap at mw) reply account = refl

@@ -4,6 +4,8 @@ pub mod Following
 pub mod Kept
 pub mod Sights
 pub mod Lives
+pub mod Probes
+pub mod Steps
 pub mod Running
 pub mod Reaching
 pub mod Queued

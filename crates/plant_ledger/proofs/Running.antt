@@ -1,8 +1,8 @@
 -- What the ledger keeps of all accounts together, and how it follows the calls.
-use Rattle.std.proofs.Common.{◌≡◌, ℕ, suc, ◌+◌, ◌-◌, ◌*◌, ◌^◌, ◌<◌, ◌≤◌, true, ◌&&◌, eqb, List, [], ◌∷◌, ◌++◌, length, get_or, map, Option, Some, None, refl, sym, ap, subst, ◌∙◌, add-zero, arith, append_assoc, inl, inr}
+use Rattle.std.proofs.Common.{◌≡◌, ℕ, suc, ◌+◌, ◌-◌, ◌*◌, ◌^◌, ◌<◌, ◌≤◌, Bool, List, [], ◌∷◌, ◌++◌, length, get_or, map, Option, Some, None, refl, sym, ap, subst, ◌∙◌, add-zero, arith, append_assoc, inl, inr}
 use Rattle.std.specs.Prelude.{Result, Ok, Err, IfOk, sum_by, max, slice_get, slice_set}
 use Rattle.std.specs.List.{All, range_with_len}
-use Rattle.std.proofs.lemmas.Bool.{le-ltb, and_parts, eqb-true, cases_Bool}
+use Rattle.std.proofs.lemmas.Bool.{le-ltb, cases_Bool}
 use Rattle.std.proofs.lemmas.Simd.{map-map}
 use Rattle.std.proofs.lemmas.List.Elements.{All-head, All-tail, All-weaker, All-set, All-push}
 use Rattle.std.proofs.lemmas.List.Sums.{sum_by-cons, sum_by-set, get_or-le-sum_by, sum_by-le}
@@ -13,6 +13,7 @@ use Rattle.limiter_num.specs.Timers.{reach}
 use Rattle.limiter_num.specs.Rating.{mw}
 use Rattle.share_policy.specs.declared.claim.Claim.{Claim}
 use Rattle.share_policy.specs.Shares.{level_of}
+use Rattle.share_policy.specs.Claims.{IsFeasible}
 use Rattle.plant_book.specs.declared.call.Write as writes
 use Rattle.plant_book.specs.declared.site.Unit.{Unit as Inverter}
 use Rattle.plant_book.specs.Site.{SiteRecord, inverters, floor_at}
@@ -25,21 +26,21 @@ use Rattle.plant_book.specs.declared.book.Entry.{Entry}
 use Rattle.plant_book.specs.declared.carry.CapMark as marks
 use Rattle.plant_book.specs.Calls.{moment}
 use Rattle.plant_book.specs.Part.{PartRecord, book_behind}
-use Rattle.plant_book.specs.Carry.{mark_of}
+use Rattle.plant_book.specs.Carry.{mark_of, IsBehind}
 use Rattle.plant_book.specs.Carry as carries
 use Rattle.plant_book.specs.Answered.{with_entries}
 use Rattle.plant_book.proofs.Marks.{mark_of-sets, mark_of-stays}
 use Rattle.plant_ledger.specs.Plant.{with_one}
-use Rattle.plant_book.proofs.Claims.{sum_by-range}
+use Rattle.plant_book.proofs.Claims.{sum_by-range, claims-feasible}
 use Rattle.plant_book.proofs.Maxima.{fold_max-push}
 use Rattle.plant_book.proofs.Inverters.{floor_at-is, rated_at-is, covering-is}
 use Rattle.uncertain_writes.specs.Live.{is_past, without}
 use Rattle.uncertain_writes.proofs.Lists.{fold_max-from}
 use Rattle.plant_ledger.specs.declared.sums.Sums.{Sums}
 use Rattle.plant_ledger.specs.Account.{Account, IsAccount, AreFrom, most_of, reserved_of, claim_by, unit_by}
-use Rattle.plant_ledger.specs.declared.sums.Known.{Known}
-use Rattle.plant_ledger.specs.declared.sums.Known.TheVariants as known
-use Rattle.plant_ledger.specs.Ledger.{AreAccounts, AreSums, IsOf, IsLevel, IsFallLevel, account_at, mark_after}
+use Rattle.plant_ledger.specs.declared.known.Known.{Known}
+use Rattle.plant_ledger.specs.Known.{IsKnown}
+use Rattle.plant_ledger.specs.Ledger.{AreAccounts, IsLedgerOf, AreSums, IsLevel, IsFallLevel, account_at, mark_after}
 
 -- what holds of a value holds of what follows from it
 pub if_ok : {T E : Type 0} (result : Result T E) (P Q : T → Type 0) → ((value : T) → P value → Q value) → IfOk result P → IfOk result Q
@@ -47,8 +48,8 @@ if_ok (Ok value) P Q then fact = then value fact
 if_ok (Err fault) P Q then fact = tt
 
 -- nothing that is known is right
-pub no_level : (cap : ℕ) (accounts : List Account) (level : Known) → level ≡ known.AtLeast 0 → IsLevel cap accounts level
-no_level cap accounts level none = rw none (omega arith)
+pub no_level : (cap : ℕ) (accounts : List Account) (level : Known) → level.made ≡ None → level.probe ≡ None → IsLevel cap accounts level
+no_level cap accounts level unmade none = record { made = rw unmade tt; probe = rw none tt }
 
 pub no_fall_level : (cap : ℕ) (site : SiteRecord) (level : Option ℕ) → level ≡ None → IsFallLevel cap site level
 no_fall_level cap site level none = rw none tt
@@ -147,6 +148,28 @@ pub level_is : (book : BookRecord) (now : ℕ) (accounts : List Account) (cap : 
 level_is book now accounts cap are in_force =
     ap (λ (n : ℕ). level_of n (map claim_by accounts)) in_force ∙ ap (level_of (cap_of book)) (claims_are book now accounts are)
 
+-- the claims that are kept are feasible, and have the level that the definition has
+module _ (part : PartRecord) (now : ℕ) (accounts : List Account) (claims : List Claim) (cap : ℕ) (stopped : Bool) (ledger : IsLedgerOf part now accounts cap stopped)
+    (are : claims ≡ map claim_by accounts) where
+  pub kept_feasible : IsFeasible cap claims
+  kept_feasible =
+      let life = ledger.of_life in
+      let whole = book_behind life.before part in
+      let its = ledger.each life.before life.behind in
+      subst (λ (all : List Claim). IsFeasible cap all) (sym (are ∙ claims_are whole now accounts its.of_inverters))
+      (subst (λ (n : ℕ). IsFeasible n (rule.claims whole)) (sym its.in_force) (claims-feasible whole life.behind.book))
+
+  pub kept_level : (before : List Entry) → IsBehind before part → level_of cap claims ≡ level_of (cap_of (book_behind before part)) (rule.claims (book_behind before part))
+  kept_level before is =
+      let its = ledger.each before is in
+      ap (level_of cap) are ∙ level_is (book_behind before part) now accounts cap its.of_inverters its.in_force
+
+  pub kept_known : (known : Known) → IsLevel cap accounts known → IsKnown cap claims known
+  kept_known known is = subst (λ (all : List Claim). IsKnown cap all known) (sym are) is
+
+  pub known_kept : (known : Known) → IsKnown cap claims known → IsLevel cap accounts known
+  known_kept known is = subst (λ (all : List Claim). IsKnown cap all known) are is
+
 -- the mark after one more entry
 pub mark_next : (part : PartRecord) (before : List Entry) (entry : Entry) (total : ℕ) (mark : Option marks.CapMark) → mark ≡ mark_of (book_behind before part)
     → total ≡ total_at (book_behind before (with_one part entry)) (moment entry.call) → mark_after mark entry total ≡ mark_of (book_behind before (with_one part entry))
@@ -203,19 +226,8 @@ module _ (accounts : List Account) (sums : Sums) (are : AreSums accounts sums) (
         (older_from sums.oldest new.oldest accounts older are.oldest);
   }
 
--- claims that are found the same
-claim_with : (floor wish rated other_floor other_wish other_rated : ℕ) → floor ≡ other_floor → wish ≡ other_wish → rated ≡ other_rated
-    → ◌≡◌ {A = Claim} (record { floor = floor; wish = wish; rated = rated }) (record { floor = other_floor; wish = other_wish; rated = other_rated })
-claim_with floor wish rated other_floor other_wish other_rated a b c = rw (a, b, c) refl
-
-pub same_claims : (claim other : Claim) → (eqb claim.floor other.floor && (eqb claim.wish other.wish && eqb claim.rated other.rated)) ≡ true → claim ≡ other
-same_claims claim other is =
-    let floors = and_parts (eqb claim.floor other.floor) (eqb claim.wish other.wish && eqb claim.rated other.rated) is in
-    let others = and_parts (eqb claim.wish other.wish) (eqb claim.rated other.rated) floors.1 in
-    claim_with claim.floor claim.wish claim.rated other.floor other.wish other.rated (eqb-true claim.floor other.floor floors.0) (eqb-true claim.wish other.wish others.0) (eqb-true claim.rated other.rated others.1)
-
--- and their level, where its claim didn't
+-- the level of the claims is known as well, where none of them changed
 pub level_next : (cap : ℕ) (accounts : List Account) (inverter : ℕ) (account otherwise : Account) (level : Known) → claim_by account ≡ claim_by (get_or accounts inverter otherwise)
     → IsLevel cap accounts level → IsLevel cap (slice_set accounts inverter account) level
 level_next cap accounts inverter account otherwise level same is =
-    subst (λ (claims : List Claim). IsOf level (level_of cap claims)) (sym (map-set_same claim_by accounts inverter account otherwise same)) is
+    subst (λ (claims : List Claim). IsKnown cap claims level) (sym (map-set_same claim_by accounts inverter account otherwise same)) is

@@ -1,8 +1,9 @@
 -- What the ledger keeps of one inverter, and what one more entry makes of it.
-use Rattle.std.specs.Prelude.{◌≡◌, ℕ, ◌+◌, ◌*◌, ◌^◌, ◌<◌, ◌≤◌, Bool, true, false, if◌then◌else◌, List, ◌∷◌, [], ◌++◌, length, map, fold, max, slice_get, Option, Some, None}
+use Rattle.std.specs.Prelude.{◌≡◌, ℕ, ◌+◌, ◌*◌, ◌^◌, ◌<◌, ◌≤◌, Bool, true, false, if◌then◌else◌, List, ◌∷◌, [], ◌++◌, length, map, fold, max, slice_get, Option, Some, None, IfSome}
 use Rattle.std.specs.List.{All}
 use Rattle.limiter_num.specs.declared.rules.Rules.{Rules}
 use Rattle.limiter_num.specs.Rating.{mw, full, rated}
+use Rattle.limiter_num.specs.declared.rating.Rating.{Rating}
 use Rattle.share_policy.specs.declared.claim.Claim.{Claim}
 use Rattle.plant_book.specs.declared.site.Unit.{Unit as Inverter}
 use Rattle.plant_book.specs.declared.call.Call.{Call}
@@ -61,8 +62,13 @@ unit_by account = record {
 abbrev pub AreFrom : ℕ → List written.Write → Type 0
 AreFrom oldest its_writes = All (λ write. oldest ≤ write.at) its_writes
 
+-- the milliwatts of each raw percentage are as many times these
+abbrev pub IsStep : Rating → ℕ → Type 0
+IsStep rating step = (raw : ℕ) → mw rating raw ≡ raw * step
+
 -- What an account keeps that follows from the inverter and its live writes.
-pub record Follows (unit : Inverter) (its_writes : List written.Write) (floor_mw raw mw_at_raw watts at : ℕ) : Type 0 where
+pub record Follows (unit : Inverter) (its_writes : List written.Write) (floor_mw raw mw_at_raw watts at : ℕ)
+    (mw_at_one : Option ℕ) : Type 0 where
   pub floor : floor_mw ≡ mw unit.rating unit.floor
   pub low : floor_mw ≤ 65535 * 10 ^ 12
   pub top : raw ≡ full unit.rating
@@ -70,6 +76,7 @@ pub record Follows (unit : Inverter) (its_writes : List written.Write) (floor_mw
   pub reserved : watts ≡ most_of unit its_writes
   pub below : watts ≤ 65535 * 10 ^ 12
   pub oldest : AreFrom at its_writes
+  pub step : IfSome mw_at_one (IsStep unit.rating)
 
 -- the numbers of an inverter's account are those of the book at this moment
 pub record IsAccount (book : BookRecord) (now inverter : ℕ) (account : Account) : Type 0 where

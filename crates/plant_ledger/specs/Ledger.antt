@@ -22,8 +22,8 @@ use Rattle.share_policy.specs.declared.claim.Claim.{Claim}
 use Rattle.share_policy.specs.Shares.{level_of}
 use Rattle.plant_book.specs.Policy.{fall_claims}
 use Rattle.plant_ledger.specs.declared.sums.Sums.{Sums}
-use Rattle.plant_ledger.specs.declared.sums.Known.{Known}
-use Rattle.plant_ledger.specs.declared.sums.Known.TheVariants as known
+use Rattle.plant_ledger.specs.declared.known.Known.{Known}
+use Rattle.plant_ledger.specs.Known.{IsKnown}
 use Rattle.plant_ledger.specs.Account.{Account, IsAccount, AreFrom, reserved_of, claim_by}
 use Rattle.plant_ledger.specs.Plant.{IsKept}
 use Rattle.plant_ledger.specs.Queue.{AreQueued}
@@ -74,14 +74,9 @@ pub record AreSums (accounts : List Account) (sums : Sums) : Type 0 where
   pub each : All (λ account. reserved_of account ≤ 65535 * 10 ^ 12) accounts
   pub oldest : All (λ account. AreFrom sums.oldest account.live) accounts
 
--- what is known of a level is right
-abbrev pub IsOf : Known → ℕ → Type 0
-IsOf (known.AtLeast mw) level = mw ≤ level
-IsOf (known.Is mw) level = mw ≡ level
-
 -- what is known of the level of the claims under the cap is right
 abbrev pub IsLevel : ℕ → List Account → Known → Type 0
-IsLevel cap accounts level = IsOf level (level_of cap (map claim_by accounts))
+IsLevel cap accounts level = IsKnown cap (map claim_by accounts) level
 
 -- a level of the fall shares that is kept is theirs
 abbrev pub IsFallLevel : ℕ → SiteRecord → Option ℕ → Type 0

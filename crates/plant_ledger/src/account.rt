@@ -1,12 +1,14 @@
 //! What the ledger keeps of one inverter.
-ghost use Rattle.std.specs.Prelude.{◌≡◌, ℕ, ◌+◌, ◌*◌, ◌^◌, ◌<◌, ◌≤◌, None, Some, not, filter};
+ghost use Rattle.std.specs.Prelude.{◌≡◌, ℕ, ◌+◌, ◌*◌, ◌^◌, ◌<◌, ◌≤◌, None, Some, IfSome, not, filter};
+ghost use Rattle.limiter_num.specs.Milliwatts.{power_of};
 ghost use Rattle.limiter_num.specs.Rating.{mw, full, rated};
+ghost use Rattle.limiter_num.specs.Timers as timers;
 ghost use Rattle.plant_book.specs.Writes.{frees};
 ghost use Rattle.uncertain_writes.specs.Live.{without};
 ghost use Rattle.plant_ledger.specs.Ledger.{account_at};
-ghost use Rattle.plant_ledger.specs.Account.{first_account, unit_by, most_of, reserved_of, claim_by, AreFrom, HasRoom, after_ask, after_read, after_saw, after_back, after_call};
+ghost use Rattle.plant_ledger.specs.Account.{first_account, unit_by, most_of, reserved_of, claim_by, AreFrom, HasRoom, IsStep, after_ask, after_read, after_saw, after_back, after_call};
 
-use limiter_num::Rules;
+use limiter_num::{Rating, Rules};
 use plant_book::{Call, Claim, Entry, Read, Reply, Unit, UnitCarry};
 use std::marker::Model;
 use uncertain_writes::Live;
@@ -16,11 +18,13 @@ use uncertain_writes::Live;
 #[derive(Debug, Drop)]
 pub struct Account {
     /// What it wishes for, in mW.
-    pub wish: u64,
+    wish: u64,
     floor: u64,
     rated: u64,
     reserved: u64,
     oldest: u64,
+    /// The milliwatts of one raw percent, where those of each raw percentage are as many times it.
+    step: Option<u64>,
     /// The number of its link, or 0 where it had none yet.
     pub link: u32,
     /// How many requests its link has had.
@@ -28,7 +32,7 @@ pub struct Account {
     full: u16,
     unit: Unit,
     /// Whether its last read-back was strange.
-    pub strange: bool,
+    strange: bool,
     /// Its pending read.
     pub pending: Option<Read>,
     /// Its live writes. They stand last, so that the numbers lie close together.
@@ -50,7 +54,7 @@ impl Model for Account {
       live = a.live;
     } };
 
-    ghost invariant = { λ a. seen.Follows a.unit a.live a.floor a.full a.rated a.reserved a.oldest };
+    ghost invariant = { λ a. seen.Follows a.unit a.live a.floor a.full a.rated a.reserved a.oldest a.step };
 }
 
 impl Account {
@@ -73,8 +77,23 @@ impl Account {
             full,
             rated,
             reserved: floor,
+            step: step_of(&unit.rating),
             oldest: u64::MAX,
         }
+    }
+
+    /// What it wishes for, in mW.
+    pub fn wish(&self) -> u64
+        ensures { result ≡ self.now.wish }
+    {
+        self.wish
+    }
+
+    /// Whether its last read-back was strange.
+    pub fn is_strange(&self) -> bool
+        ensures { result ≡ self.now.strange }
+    {
+        self.strange
     }
 
     /// Its live writes.
@@ -104,6 +123,17 @@ impl Account {
         ensures { AreFrom result self.now.live }
     {
         self.oldest
+    }
+
+    /// The milliwatts that a raw percentage of its stands for.
+    pub fn limit(&self, raw: u16) -> u64
+        ensures watts { result ≡ mw self.now.unit.rating raw }
+        ensures below { result ≤ 65535 * 10 ^ 12 }
+    {
+        match self.step {
+            Some(step) => u64::from(raw) * step,
+            None => self.unit.rating.mw(raw),
+        }
     }
 
     /// The milliwatts of its floor.
@@ -160,11 +190,12 @@ impl Account {
         }
     }
 
-    /// Drops the writes that are past by this moment, in ms.
-    pub fn expire(&mut self, rules: &Rules, now: u64)
+    /// Drops the writes that are past by this moment. It and how long a write may be held are in ms.
+    pub fn expire(&mut self, rules: &Rules, reach: u64, now: u64)
+        requires { reach ≡ timers.reach rules.now }
         ensures { self.new ≡ account_at rules.now now self.old }
     {
-        if now <= self.oldest.saturating_add(rules.reach()) {
+        if now <= self.oldest.saturating_add(reach) {
             return;
         }
         let _ = self.live.expire(rules, now);
@@ -206,8 +237,8 @@ impl Account {
         ensures { self.new ≡ after_ask reply.now self.old }
     {
         if let Reply::Granted(write) = *reply {
+            let limit = self.limit(write.raw);
             self.requests += 1;
-            let limit = self.unit.rating.mw(write.raw);
             self.reserved = self.reserved.max(limit);
             self.oldest = self.oldest.min(write.at);
             let added = self.live.add(write);
@@ -298,4 +329,21 @@ pub fn covering_left(
     ensures { result ≡ most_of unit.now (without (frees rules.now (Some read.now) raw) live.now) }
 {
     floor.max(live.greatest_left(&unit.rating, rules, read, raw))
+}
+
+/// The power of ten that turns WMax times a raw percentage into mW.
+fn power(rating: &Rating) -> i32
+    ensures { result ≡ power_of rating.now.wsf rating.now.psf }
+{
+    i32::from(rating.wsf) + i32::from(rating.psf) + 1
+}
+
+/// The milliwatts of one raw percent, where those of each raw percentage are as many times it.
+fn step_of(rating: &Rating) -> Option<u64>
+    ensures { IfSome result (IsStep rating.now) }
+{
+    if power(rating) < 0 {
+        return None;
+    }
+    Some(rating.mw(1))
 }

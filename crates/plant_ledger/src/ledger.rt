@@ -1,31 +1,32 @@
 //! A book, and the account of each inverter.
 ghost use Rattle.std.specs.Prelude.{◌≡◌, ℕ, ◌<◌, ◌≤◌, ◌^◌, nat_le, ◌||◌, ◌⊎◌, if◌then◌else◌, [], ◌∷◌, ◌++◌, length, map, Some, None, IfOk, IfErr, IfSome, OnOk, OnErr, slice_get, slice_set, slice_index_or};
-ghost use Rattle.plant_book.specs.Site.{inverters, floors, full_at};
+ghost use Rattle.limiter_num.specs.Timers as timers;
+ghost use Rattle.plant_book.specs.Site.{inverters, floors, full_at, mw_at};
 ghost use Rattle.plant_book.specs.Caps.{sets_cap, cap_by, cap_of};
 ghost use Rattle.plant_book.specs.Calls.{moment, named};
 ghost use Rattle.plant_book.specs.Answer.{silent_until, stops, is_stopped};
 ghost use Rattle.plant_book.specs.Answered.{IsOpenable, IsNext, IsAnswer};
 ghost use Rattle.plant_book.specs.Reserved as sums;
 ghost use Rattle.plant_book.specs.Policy as rule;
-ghost use Rattle.share_policy.specs.Claims.{IsFeasible};
 ghost use Rattle.share_policy.specs.Shares.{level_of};
 ghost use Rattle.plant_book.specs.Part.{begin_of, calls_of, book_behind};
 ghost use Rattle.plant_book.specs.Carry.{mark_of, units_of, IsBookPart, EachBefore, EachBook};
 ghost use Rattle.plant_ledger.specs.Account.{Account as Kept};
-ghost use Rattle.plant_ledger.specs.Account.{IsAccount, HasRoom, first_account, after_call, claim_by, unit_by};
+ghost use Rattle.plant_ledger.specs.Account.{IsAccount, HasRoom, after_call, claim_by};
 ghost use Rattle.plant_ledger.specs.Ledger.{IsUnit, IsAtLast, AreSums, IsLevel, account_at};
 ghost use Rattle.plant_ledger.specs.Plant.{with_one, Rolls, IsFullLife};
 
 use crate::account::Account;
+use crate::lists::{claims_by, first_accounts, units_by};
 use crate::queue::{expire_due, queue_grant};
 use crate::rolling::{RollFault, next_book};
-use crate::sums::{Known, Sums, gather};
+use crate::sums::{Sums, gather};
 use limiter_num::{NoMemory, Rules};
 use plant_book::{
     Book, CALLS_MAX, Call, CapMark, Claim, Entry, MOMENT_MAX, Policy, Reply, Site, Unit, UnitCarry,
 };
 use revert_timers::Expiries;
-use share_policy::{level, reaches};
+use share_policy::level;
 use std::alloc::Global;
 use std::marker::Model;
 use std::mem;
@@ -105,13 +106,14 @@ impl Ledger {
                 &mut self.expiries,
                 &mut self.sums,
                 &rules,
+                reach,
                 now,
             );
             self.sums.oldest = now.saturating_sub(reach);
             self.moment = now;
             return;
         }
-        expire(&mut self.accounts, &rules, now);
+        expire(&mut self.accounts, &rules, reach, now);
         let sums = gather(&self.accounts);
         self.sums.total = sums.total;
         self.sums.oldest = sums.oldest;
@@ -140,7 +142,12 @@ impl Ledger {
         let cap = cap_after(self.cap, &entry);
         self.sums.under(self.cap, cap);
         self.sums.mark(&entry);
-        self.sums.unqueued = queue_grant(&mut self.expiries, self.sums.unqueued, &rules, &entry);
+        self.sums.unqueued = queue_grant(
+            &mut self.expiries,
+            self.sums.unqueued,
+            self.reach,
+            &entry,
+        );
         self.cap = cap;
         self.stopped = is_stopped_after(self.stopped, &entry.call);
         self.book.push(entry);
@@ -255,23 +262,11 @@ impl Ledger {
         self.sums.total
     }
 
-    /// The claims of all inverters in the order of their numbers.
-    fn claims(&self) -> &[Claim]
-        ensures claims { EachBook self.now.book (λ whole. result.now ≡ rule.claims whole) }
-        ensures feasible { EachBook self.now.book (λ whole. IsFeasible (cap_of whole) (rule.claims whole)) }
-        ensures of_life { IsBookPart self.now.book }
-    {
-        &self.claims
-    }
-
     /// The level of the fair shares, in mW.
     pub fn level(&self) -> u64
         ensures { EachBook self.now.book (λ whole. result ≡ level_of (cap_of whole) (rule.claims whole)) }
     {
-        match self.sums.level {
-            Known::Is(level) => level,
-            Known::AtLeast(_) => level(self.cap(), self.claims()),
-        }
+        self.sums.level.level(self.cap, &self.claims)
     }
 
     /// Whether the level of the fair shares is at least this one, in mW.
@@ -279,11 +274,7 @@ impl Ledger {
         ensures { EachBook self.now.book
             (λ whole. result ≡ nat_le mw (level_of (cap_of whole) (rule.claims whole))) }
     {
-        match self.sums.level {
-            Known::Is(level) => mw <= level,
-            Known::AtLeast(least) if mw <= least => true,
-            Known::AtLeast(_) => reaches(self.cap(), self.claims(), mw),
-        }
+        self.sums.level.reaches(self.cap, &self.claims, mw)
     }
 
     /// The level of the fall shares, in mW.
@@ -303,7 +294,7 @@ impl Ledger {
         ensures { self.new ≡ self.old }
     {
         if self.policy() == Policy::Fair {
-            let mw = self.unit(inverter).rating.mw(raw);
+            let mw = self.limit(inverter, raw);
             self.learn_level(mw);
         }
         if self.total() > self.cap() {
@@ -315,19 +306,7 @@ impl Ledger {
     fn learn_level(&mut self, mw: u64)
         ensures { self.new ≡ self.old }
     {
-        if self.reaches(mw) {
-            self.sums.level = self.sums.level.or_at_least(mw);
-        } else {
-            self.make_level();
-        }
-    }
-
-    /// Makes the level of the fair shares.
-    fn make_level(&mut self)
-        ensures { self.new ≡ self.old }
-    {
-        let made = self.level();
-        self.sums.level = Known::Is(made);
+        self.sums.level.learn(self.cap, &self.claims, mw);
     }
 
     /// Makes the level of the fall shares.
@@ -345,6 +324,14 @@ impl Ledger {
         ensures numbers { IsUnit self.now.book.site inverter result.now }
     {
         unit_of(&self.book, inverter)
+    }
+
+    /// The milliwatts that a raw percentage of the inverter stands for.
+    pub fn limit(&self, inverter: u8, raw: u16) -> u64
+        requires { inverter < inverters self.now.book.site }
+        ensures { result ≡ mw_at self.now.book.site inverter raw }
+    {
+        self.account(inverter).limit(raw)
     }
 
     /// The greatest raw percentage of the inverter.
@@ -406,52 +393,14 @@ fn unit_of(book: &Book, inverter: u8) -> &Unit
     &site.units[usize::from(inverter)]
 }
 
-/// The accounts of these inverters before the first call.
-fn first_accounts(alloc: Global, units: &[Unit]) -> Result<Vec<Account>, NoMemory>
-    ensures { IfOk result (λ accounts. accounts.items ≡ map first_account units.now) }
-{
-    let Ok(mut accounts) = Vec::with_capacity(alloc, units.len()) else {
-        return Err(NoMemory);
-    };
-    for unit in units {
-        accounts.push_reserved(Account::new(unit));
-    }
-    Ok(accounts)
-}
-
-/// What these accounts leave to the next book.
-fn units_by(alloc: Global, accounts: &[Account]) -> Result<Vec<UnitCarry>, NoMemory>
-    ensures { IfOk result (λ units. units.items ≡ map unit_by accounts.now) }
-{
-    let Ok(mut units) = Vec::with_capacity(alloc, accounts.len()) else {
-        return Err(NoMemory);
-    };
-    for account in accounts {
-        units.push_reserved(account.carry());
-    }
-    Ok(units)
-}
-
-/// Drops the writes of all accounts that are past by this moment, in ms.
-fn expire(accounts: &mut [Account], rules: &Rules, now: u64)
+/// Drops the writes of all accounts that are past by this moment. It and how long a write may be held are in ms.
+fn expire(accounts: &mut [Account], rules: &Rules, reach: u64, now: u64)
+    requires { reach ≡ timers.reach rules.now }
     ensures { accounts.new ≡ map (account_at rules.now now) accounts.old }
 {
     for account in accounts.iter_mut() {
-        account.expire(rules, now);
+        account.expire(rules, reach, now);
     }
-}
-
-/// What the shares of these inverters go by.
-fn claims_by(alloc: Global, accounts: &[Account]) -> Result<Vec<Claim>, NoMemory>
-    ensures { IfOk result (λ claims. claims.items ≡ map claim_by accounts.now) }
-{
-    let Ok(mut claims) = Vec::with_capacity(alloc, accounts.len()) else {
-        return Err(NoMemory);
-    };
-    for account in accounts {
-        claims.push_reserved(account.claim());
-    }
-    Ok(claims)
 }
 
 /// The account of the inverter that one more entry names follows it, and so do its claim and the numbers of all
@@ -489,17 +438,19 @@ fn follow(
     };
     let place = usize::from(inverter);
     let account = &mut accounts[place];
-    let claim = account.claim();
+    let wish = account.wish();
+    let strange = account.is_strange();
     let reserved = account.reserved();
     account.follow(rules, entry);
     sums.total = sums.total - reserved + account.reserved();
     sums.oldest = sums.oldest.min(account.oldest());
-    let next = account.claim();
-    if next == claim {
+    if account.wish() == wish && account.is_strange() == strange {
         return;
     }
+    let claim = claims[place];
+    let next = account.claim();
     claims[place] = next;
-    sums.level = Known::AtLeast(0);
+    sums.level = sums.level.moved(&claim, &next);
 }
 
 /// The cap in force after one more entry, in mW.

@@ -7,7 +7,9 @@
 mod account;
 mod ceiling;
 mod entering;
+mod known;
 mod ledger;
+mod lists;
 mod opening;
 mod plant;
 mod queue;

@@ -1,6 +1,8 @@
 //! The queue of grants, by which an expiry looks at no inverter that has nothing due.
 ghost use Rattle.std.specs.Prelude.{◌≡◌, ℕ, ◌≤◌, ◌<◌, length, map, Some, slice_set, slice_index_or};
 ghost use Rattle.std.specs.List.{All};
+ghost use Rattle.limiter_num.specs.declared.rules.Rules.{Rules as Timed};
+ghost use Rattle.limiter_num.specs.Timers as timers;
 ghost use Rattle.plant_book.specs.Calls.{named};
 ghost use Rattle.plant_book.specs.declared.call.Write.{Write as Written};
 ghost use Rattle.plant_ledger.specs.Account.{Account as Kept};
@@ -11,19 +13,22 @@ use crate::account::Account;
 use crate::sums::Sums;
 use limiter_num::Rules;
 use plant_book::{Entry, MOMENT_MAX, Reply, Write};
-use revert_timers::{Due, Expiries, last_moment};
+use revert_timers::{Due, Expiries};
 
 /// Puts the write that an entry grants into the queue, if it grants one. Answers a moment in ms before which no write
-/// was granted that isn't queued, as the one given was before.
-pub fn queue_grant(expiries: &mut Expiries, unqueued: u64, rules: &Rules, entry: &Entry) -> u64
-    ensures others { (inverter : ℕ) (write : Written) → IsQueued rules.now expiries.old unqueued inverter write
-        → IsQueued rules.now expiries.new result inverter write }
-    ensures granted { (inverter : ℕ) (write : Written) → named entry.now.call ≡ Some inverter
-        → entry.now.reply ≡ Reply.Granted write → IsQueued rules.now expiries.new result inverter write }
+/// was granted that isn't queued, as the one given was before. It may be held for so many ms after its grant.
+pub fn queue_grant(expiries: &mut Expiries, unqueued: u64, reach: u64, entry: &Entry) -> u64
+    requires low { reach ≤ 130860000 }
+    ensures others { (rules : Timed) (inverter : ℕ) (write : Written)
+        → IsQueued rules expiries.old unqueued inverter write
+        → IsQueued rules expiries.new result inverter write }
+    ensures granted { (rules : Timed) (inverter : ℕ) (write : Written) → reach ≡ timers.reach rules
+        → named entry.now.call ≡ Some inverter → entry.now.reply ≡ Reply.Granted write
+        → IsQueued rules expiries.new result inverter write }
 {
     match (entry.call.inverter(), &entry.reply) {
         (Some(inverter), Reply::Granted(write)) => {
-            queue_write(expiries, unqueued, rules, inverter, write)
+            queue_write(expiries, unqueued, reach, inverter, write)
         }
         _ => unqueued,
     }
@@ -33,19 +38,22 @@ pub fn queue_grant(expiries: &mut Expiries, unqueued: u64, rules: &Rules, entry:
 fn queue_write(
     expiries: &mut Expiries,
     unqueued: u64,
-    rules: &Rules,
+    reach: u64,
     inverter: u8,
     write: &Write,
 ) -> u64
-    ensures others { (other : ℕ) (one : Written) → IsQueued rules.now expiries.old unqueued other one
-        → IsQueued rules.now expiries.new result other one }
-    ensures granted { IsQueued rules.now expiries.new result inverter write.now }
+    requires low { reach ≤ 130860000 }
+    ensures others { (rules : Timed) (other : ℕ) (one : Written)
+        → IsQueued rules expiries.old unqueued other one
+        → IsQueued rules expiries.new result other one }
+    ensures granted { (rules : Timed) → reach ≡ timers.reach rules
+        → IsQueued rules expiries.new result inverter write.now }
 {
     if write.at > MOMENT_MAX {
         return unqueued.min(write.at);
     }
     let due = Due {
-        last: last_moment(rules, write.at),
+        last: write.at + reach,
         inverter,
         link: write.link,
         number: write.number,
@@ -57,7 +65,15 @@ fn queue_write(
 }
 
 /// Drops what is past by a moment in ms of the account at a place, if there is one.
-fn expire_at(accounts: &mut [Account], sums: &mut Sums, place: usize, rules: &Rules, now: u64)
+fn expire_at(
+    accounts: &mut [Account],
+    sums: &mut Sums,
+    place: usize,
+    rules: &Rules,
+    reach: u64,
+    now: u64,
+)
+    requires reach { reach ≡ timers.reach rules.now }
     requires few { length accounts.old ≤ 64 }
     requires sums { AreSums accounts.old sums.old }
     ensures sums { AreSums accounts.new sums.new }
@@ -74,7 +90,7 @@ fn expire_at(accounts: &mut [Account], sums: &mut Sums, place: usize, rules: &Ru
     }
     let account = &mut accounts[place];
     let reserved = account.reserved();
-    account.expire(rules, now);
+    account.expire(rules, reach, now);
     sums.total = sums.total - reserved + account.reserved();
 }
 
@@ -84,8 +100,10 @@ pub fn expire_due(
     expiries: &mut Expiries,
     sums: &mut Sums,
     rules: &Rules,
+    reach: u64,
     now: u64,
 )
+    requires reach { reach ≡ timers.reach rules.now }
     requires few { length accounts.old ≤ 64 }
     requires sums { AreSums accounts.old sums.old }
     requires queued { AreQueued rules.now expiries.old sums.old.unqueued accounts.old }
@@ -99,6 +117,6 @@ pub fn expire_due(
     ensures unqueued { sums.new.unqueued ≡ sums.old.unqueued }
 {
     while let Some(due) = expiries.pop_past(now) {
-        expire_at(accounts, sums, usize::from(due.inverter), rules, now);
+        expire_at(accounts, sums, usize::from(due.inverter), rules, reach, now);
     }
 }

@@ -97,7 +97,7 @@ impl Ledger {
             return Reply::Silent(silent_until);
         }
         let rating = &self.unit(write.inverter).rating;
-        if !self.allows(write.inverter, rating.mw(write.raw)) {
+        if !self.allows(write.inverter, self.limit(write.inverter, write.raw)) {
             return Reply::NotAllowed(rating.raw_at_most(self.target(write.inverter)));
         }
         self.reply_by_watts(write)
@@ -115,7 +115,7 @@ impl Ledger {
     {
         let unreserved = self.unreserved();
         let reserved = self.reserved(write.inverter);
-        let limit = self.unit(write.inverter).rating.mw(write.raw);
+        let limit = self.limit(write.inverter, write.raw);
         if reserved.max(limit) - reserved > unreserved {
             return Reply::NoWatts(unreserved);
         }

@@ -30,8 +30,20 @@ impl Ledger {
         let claim = self.claim(inverter);
         match self.policy() {
             Policy::Open => claim.rated,
-            Policy::Fair => target(Policy::Fair, self.level(), &claim),
+            Policy::Fair => self.fair_share(&claim),
         }
+    }
+
+    /// The fair share of a claim under the cap in force, in mW.
+    fn fair_share(&self, claim: &Claim) -> u64
+        ensures { EachBook self.now.book
+            (λ whole. result ≡ share_at (level_of (cap_of whole) (rule.claims whole)) claim.now) }
+    {
+        let most = claim.wish.min(claim.rated);
+        if self.reaches(most) {
+            return claim.floor.max(most);
+        }
+        target(Policy::Fair, self.level(), claim)
     }
 
     /// Whether the fair share of a claim under the cap in force is at least so many mW.

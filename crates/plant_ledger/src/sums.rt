@@ -2,31 +2,11 @@
 ghost use Rattle.std.specs.Prelude.{◌≡◌, ℕ, ◌≤◌, ◌<◌, List, length, None};
 ghost use Rattle.plant_book.specs.Site.{SiteRecord};
 ghost use Rattle.plant_ledger.specs.Account.{Account as Kept};
-ghost use Rattle.plant_ledger.specs.Ledger.{AreSums, IsOf, IsLevel, IsFallLevel, mark_after};
+ghost use Rattle.plant_ledger.specs.Ledger.{AreSums, IsLevel, IsFallLevel, mark_after};
 
 use crate::account::Account;
+use crate::known::Known;
 use plant_book::{Call, CapMark, Entry, Reply};
-
-/// What is known of a level, in mW.
-#[derive(Clone, Copy, Debug)]
-pub enum Known {
-    /// It is no lower than this.
-    AtLeast(u64),
-    /// It is this.
-    Is(u64),
-}
-
-impl Known {
-    /// The same of a level that is no lower than this either, in mW.
-    pub fn or_at_least(self, mw: u64) -> Known
-        ensures { (level : ℕ) → IsOf self level → mw ≤ level → IsOf result level }
-    {
-        match self {
-            Known::AtLeast(least) => Known::AtLeast(least.max(mw)),
-            Known::Is(level) => Known::Is(level),
-        }
-    }
-}
 
 /// Numbers of all accounts together, so that no call goes through them.
 #[derive(Clone, Copy, Debug)]
@@ -35,7 +15,7 @@ pub struct Sums {
     pub total: u64,
     /// A moment in ms before which no live write was granted.
     pub oldest: u64,
-    /// What is known of the level of the fair shares since it may have changed.
+    /// What is known of the level of the fair shares.
     pub level: Known,
     /// A moment in ms before which no live write was granted that isn't in the queue.
     pub unqueued: u64,
@@ -59,7 +39,7 @@ impl Sums {
         if old == new {
             return;
         }
-        self.level = Known::AtLeast(0);
+        self.level.made = None;
         self.fall = None;
     }
 
@@ -87,7 +67,8 @@ impl Sums {
 pub fn gather(accounts: &[Account]) -> Sums
     requires { length accounts.now ≤ 64 }
     ensures sums { AreSums accounts.now result }
-    ensures level { result.level ≡ Known.AtLeast 0 }
+    ensures made { result.level.made ≡ None }
+    ensures probe { result.level.probe ≡ None }
     ensures fall { result.fall ≡ None }
     ensures set { result.set ≡ None }
     ensures unqueued { result.unqueued ≡ result.oldest }
@@ -101,7 +82,7 @@ pub fn gather(accounts: &[Account]) -> Sums
     Sums {
         total,
         oldest,
-        level: Known::AtLeast(0),
+        level: Known::nothing(),
         unqueued: oldest,
         fall: None,
         set: None,

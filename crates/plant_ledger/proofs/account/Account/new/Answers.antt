@@ -16,5 +16,6 @@ invariant_of-result c =
       most = c.mw-rated.ensures.watts ∙ ap (mw unit.rating) c.full-full.ensures;
       reserved = c.mw-floor.ensures.watts ∙ sym (most_of-none unit) ∙ ap (most_of unit) (sym c.new.ensures);
       below = c.mw-floor.ensures.below;
+      step = c.step_of.ensures;
       oldest = subst (λ (its : List writes.Write). AreFrom 18446744073709551615 its) (sym c.new.ensures) (All-nil (λ (w : writes.Write). 18446744073709551615 ≤ w.at));
     }

@@ -3,12 +3,12 @@ use Rattle.std.proofs.lemmas.List.{length-map}
 use Rattle.limiter_num.specs.Timers.{reach}
 use Rattle.limiter_num.specs.declared.rules.Rules.{Rules}
 use Rattle.share_policy.specs.declared.claim.Claim.{Claim}
-use Rattle.share_policy.specs.Shares.{level_of}
 use Rattle.std.proofs.lemmas.Bool.{cases_lt}
 use Rattle.plant_ledger.specs.Account.{Account, claim_by}
-use Rattle.plant_ledger.specs.Ledger.{LedgerRecord, AreSums, IsOf, IsFallLevel, Keeps, account_at}
+use Rattle.plant_ledger.specs.Ledger.{LedgerRecord, AreSums, IsFallLevel, Keeps, account_at}
 use Rattle.plant_ledger.specs.Queue.{AreQueued}
-use Rattle.plant_ledger.specs.declared.sums.Known.{Known}
+use Rattle.plant_ledger.specs.Known.{IsKnown}
+use Rattle.plant_ledger.specs.declared.known.Known.{Known}
 use Rattle.plant_book.specs.declared.carry.CapMark.{CapMark}
 use Rattle.plant_book.specs.Carry.{mark_of, EachBook}
 use Rattle.plant_ledger.proofs.Accounts.{whole, later_of}
@@ -69,7 +69,7 @@ invariant_of-self-2 c =
       reach_low = kept.reach_low;
       claims_are = kept.claims_are ∙ sym (later_claims rules now inside.accounts.items);
       sums = record { total = its.total; each = its.each; oldest = its.oldest };
-      level = subst (λ (claims : List Claim). IsOf inside.sums.level (level_of inside.cap claims)) (sym (later_claims rules now inside.accounts.items)) kept.level;
+      level = subst (λ (claims : List Claim). IsKnown inside.cap claims inside.sums.level) (sym (later_claims rules now inside.accounts.items)) kept.level;
       fall = kept.fall;
       set = kept.set;
       queued = queued_all rules inside.expiries sums.oldest new its.oldest;
@@ -103,7 +103,7 @@ invariant_of-self-then-now-saturating_add-2 c =
     let is : fresh ≡ map (account_at rules now) old =
     sym at_once ∙ subst (λ (r : Rules). map (account_at r now) fresh ≡ map (account_at r now) c.deref_mut.result.now) same_rules its.same ∙ ap (map (account_at rules now)) c.deref_mut.ensures.value in
     let claims : map claim_by fresh ≡ map claim_by old = ap (map claim_by) is ∙ later_claims rules now old in
-    let level = subst (λ (list : List Claim). IsOf inside.sums.level (level_of inside.cap list)) (sym claims) kept.level in
+    let level = subst (λ (list : List Claim). IsKnown inside.cap list inside.sums.level) (sym claims) kept.level in
     let all : Keeps inside.book now fresh inside.claims.items queue (record { total = sums.total; oldest = oldest; level = sums.level; unqueued = sums.unqueued; fall = sums.fall; set = sums.set }) inside.cap inside.stopped inside.reach =
     record {
       numbers = later_of inside.book inside.moment now old fresh inside.cap inside.stopped le c.requires.high is kept.numbers;
@@ -111,7 +111,7 @@ invariant_of-self-then-now-saturating_add-2 c =
       reach_low = kept.reach_low;
       claims_are = kept.claims_are ∙ sym claims;
       sums = record { total = its.sums.total; each = its.sums.each; oldest = from };
-      level = subst (λ (known : Known). IsOf known (level_of inside.cap (map claim_by fresh))) (sym its.level) level;
+      level = subst (λ (known : Known). IsKnown inside.cap (map claim_by fresh) known) (sym its.level) level;
       fall = subst (λ (made : Option ℕ). IsFallLevel inside.cap inside.book.site made) (sym its.fall) kept.fall;
       set = subst (λ (mark : Option CapMark). EachBook inside.book (λ whole. mark ≡ mark_of whole)) (sym its.set) kept.set;
       queued = queued;

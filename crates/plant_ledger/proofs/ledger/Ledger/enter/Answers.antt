@@ -2,12 +2,11 @@ use Rattle.std.proofs.Common.{◌≡◌, ℕ, Option, Some, List, length, sym, s
 use Rattle.plant_book.specs.Part.{book_behind}
 use Rattle.plant_book.specs.declared.book.Entry.{Entry}
 use Rattle.plant_ledger.specs.Account.{Account}
-use Rattle.plant_ledger.specs.declared.sums.Known.{Known}
+use Rattle.plant_ledger.specs.declared.known.Known.{Known}
 use Rattle.plant_ledger.specs.Ledger.{LedgerRecord, IsLevel, IsFallLevel, Keeps}
 use Rattle.plant_ledger.specs.Plant.{with_one}
 use Rattle.plant_book.specs.Reserved.{total_at}
 use Rattle.plant_book.specs.Carry.{mark_of, EachBook}
-use Rattle.limiter_num.specs.declared.rules.Rules.{Rules}
 use Rattle.plant_book.specs.declared.call.Write as writes
 use Rattle.plant_book.specs.declared.call.Reply.TheVariants as replies
 use Rattle.plant_book.specs.Calls.{named}
@@ -67,17 +66,15 @@ invariant_of-self c =
     let total = under.total ∙ total_is whole inside.moment new (numbers.each before is).of_inverters ∙ ap (total_at whole) (sym may.at_once) in
     c.mark.ensures.set ∙ mark_next inside.book before c.args.entry c.under.new.self.total c.under.new.self.set (same ∙ kept.set before (without_one before inside.book c.args.entry is)) total in
     let marked = c.mark.ensures.sums new under in
-    let same_rules : c.rules_of-rules.result ≡ inside.book.site.rules = c.rules_of-rules.ensures in
     let unqueued : c.mark.new.self.unqueued ≡ inside.sums.unqueued = c.mark.ensures.unqueued ∙ c.under.ensures.unqueued ∙ c.follow.ensures.unqueued in
+    let queued = c.queue_grant-self-inside in
     let others : (inverter : ℕ) (write : writes.Write) → IsQueued inside.book.site.rules inside.expiries inside.sums.unqueued inverter write
-    → IsQueued inside.book.site.rules c.queue_grant-self-inside.new.expiries c.queue_grant-self-inside.result inverter write = λ inverter write is.
-    subst (λ (r : Rules). IsQueued r c.queue_grant-self-inside.new.expiries c.queue_grant-self-inside.result inverter write) same_rules
-    (c.queue_grant-self-inside.ensures.others inverter write (subst (λ (n : ℕ). IsQueued c.rules_of-rules.result inside.expiries n inverter write) (sym unqueued)
-    (subst (λ (r : Rules). IsQueued r inside.expiries inside.sums.unqueued inverter write) (sym same_rules) is))) in
+    → IsQueued inside.book.site.rules queued.new.expiries queued.result inverter write = λ inverter write is.
+    queued.ensures.others inside.book.site.rules inverter write (subst (λ (n : ℕ). IsQueued inside.book.site.rules inside.expiries n inverter write) (sym unqueued) is) in
     let granted : (inverter : ℕ) (write : writes.Write) → named c.args.entry.call ≡ Some inverter → c.args.entry.reply ≡ replies.Granted write
-    → IsQueued inside.book.site.rules c.queue_grant-self-inside.new.expiries c.queue_grant-self-inside.result inverter write = λ inverter write is its.
-    subst (λ (r : Rules). IsQueued r c.queue_grant-self-inside.new.expiries c.queue_grant-self-inside.result inverter write) same_rules (c.queue_grant-self-inside.ensures.granted inverter write is its) in
-    let all : Keeps (with_one inside.book c.args.entry) inside.moment new claims c.queue_grant-self-inside.new.expiries (record { total = c.mark.new.self.total; oldest = c.mark.new.self.oldest; level = c.mark.new.self.level; unqueued = c.queue_grant-self-inside.result; fall = c.mark.new.self.fall; set = c.mark.new.self.set }) c.cap_after-cap.result c.is_stopped_after-self-inside.result inside.reach =
+    → IsQueued inside.book.site.rules queued.new.expiries queued.result inverter write = λ inverter write is its.
+    queued.ensures.granted inside.book.site.rules inverter write kept.reach_is is its in
+    let all : Keeps (with_one inside.book c.args.entry) inside.moment new claims queued.new.expiries (record { total = c.mark.new.self.total; oldest = c.mark.new.self.oldest; level = c.mark.new.self.level; unqueued = queued.result; fall = c.mark.new.self.fall; set = c.mark.new.self.set }) c.cap_after-cap.result c.is_stopped_after-self-inside.result inside.reach =
     record {
       numbers = numbers;
       reach_is = kept.reach_is;
@@ -87,7 +84,7 @@ invariant_of-self c =
       level = subst (λ (made : Known). IsLevel c.cap_after-cap.result new made) (sym c.mark.ensures.level) (c.under.ensures.level new level);
       fall = subst (λ (made : Option ℕ). IsFallLevel c.cap_after-cap.result inside.book.site made) (sym c.mark.ensures.fall) (c.under.ensures.fall inside.book.site fall);
       set = mark;
-      queued = queued_entered inside.book.site.rules c.args.entry old new inside.expiries c.queue_grant-self-inside.new.expiries inside.sums.unqueued c.queue_grant-self-inside.result count
+      queued = queued_entered inside.book.site.rules c.args.entry old new inside.expiries queued.new.expiries inside.sums.unqueued queued.result count
           others granted (λ inverter otherwise is. rw (c.deref_mut.ensures.value, c.rules_of-rules.ensures) at (c.follow.ensures.named inverter otherwise is))
           (λ is. c.follow.ensures.unnamed is ∙ c.deref_mut.ensures.value) kept.queued;
     } in

@@ -1,24 +1,26 @@
 use Rattle.std.proofs.Common.{◌≡◌, subst, ◌∙◌}
-use Rattle.plant_book.specs.Part.{book_behind}
 use Rattle.plant_book.specs.Carry.{EachBook}
 use Rattle.plant_book.specs.Caps.{cap_of}
 use Rattle.plant_book.specs.Policy as rule
 use Rattle.share_policy.specs.Shares.{level_of}
-use Rattle.plant_ledger.specs.declared.sums.Known.{Known}
-use Rattle.plant_ledger.specs.Ledger.{LedgerRecord, IsLevel}
-use Rattle.plant_ledger.proofs.Running.{level_is}
+use Rattle.plant_ledger.specs.Ledger.{LedgerRecord}
+use Rattle.plant_ledger.proofs.Running.{kept_feasible, kept_known, kept_level}
 use Rattle.plant_ledger.proofs.ledger.Ledger.level.Goals as goal
 
-pub returns-in-Is : goal.returns-in-Is
-returns-in-Is c =
+pub level-requires-clause-feasible : goal.level-requires-clause-feasible
+level-requires-clause-feasible c =
     let inside = c.self.inside in
-    let kept = subst (λ (level : Known). IsLevel inside.cap inside.accounts.items level) c.in-Is.is c.self.invariant.level in
-    subst (λ (ledger : LedgerRecord). EachBook ledger.book (λ whole. c.in-Is.level ≡ level_of (cap_of whole) (rule.claims whole))) c.self.view_is
-    (λ before is.
-    let its = c.self.invariant.numbers.each before is in
-    kept ∙ level_is (book_behind before inside.book) inside.moment inside.accounts.items inside.cap its.of_inverters its.in_force)
+    rw c.deref.ensures.value (kept_feasible inside.book inside.moment inside.accounts.items inside.claims.items inside.cap inside.stopped c.self.invariant.numbers c.self.invariant.claims_are)
 
-pub level-requires : goal.level-requires
-level-requires c =
-    let life = c.claims.ensures.of_life in
-    rw (c.cap.ensures.cap life.before life.behind, c.claims.ensures.claims life.before life.behind) (c.claims.ensures.feasible life.before life.behind)
+pub level-requires-clause-known : goal.level-requires-clause-known
+level-requires-clause-known c =
+    let inside = c.self.inside in
+    let kept = c.self.invariant in
+    rw c.deref.ensures.value (kept_known inside.book inside.moment inside.accounts.items inside.claims.items inside.cap inside.stopped kept.numbers kept.claims_are inside.sums.level kept.level)
+
+pub returns : goal.returns
+returns c =
+    let inside = c.self.inside in
+    let kept = c.self.invariant in
+    subst (λ (ledger : LedgerRecord). EachBook ledger.book (λ whole. c.level.result ≡ level_of (cap_of whole) (rule.claims whole))) c.self.view_is
+    (λ before is. rw c.deref.ensures.value at c.level.ensures ∙ kept_level inside.book inside.moment inside.accounts.items inside.claims.items inside.cap inside.stopped kept.numbers kept.claims_are before is)

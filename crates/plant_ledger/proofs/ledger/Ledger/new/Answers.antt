@@ -28,7 +28,7 @@ invariant_of-result c =
       sums = subst (λ (all : List Account). AreSums all c.gather-sums.result) its c.gather-sums.ensures.sums;
       queued = subst (λ (n : ℕ). AreQueued c.in_ok-book.book.site.rules c.in_ok-expiries.expiries n c.in_ok-accounts.accounts.items) (sym c.gather-sums.ensures.unqueued)
           (queued_all c.in_ok-book.book.site.rules c.in_ok-expiries.expiries c.gather-sums.result.oldest c.in_ok-accounts.accounts.items (subst (λ (all : List Account). AreSums all c.gather-sums.result) its c.gather-sums.ensures.sums).oldest);
-      level = no_level _ _ _ c.gather-sums.ensures.level;
+      level = no_level _ _ _ c.gather-sums.ensures.made c.gather-sums.ensures.probe;
       fall = no_fall_level _ _ _ c.gather-sums.ensures.fall;
       set = subst (λ (book : PartRecord). EachBook book (λ whole. c.gather-sums.result.set ≡ mark_of whole)) (sym c.in_ok-book.ensures) (first_mark c.args.site c.args.start c.gather-sums.result.set c.gather-sums.ensures.set);
     }

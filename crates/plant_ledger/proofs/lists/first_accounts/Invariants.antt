@@ -1,6 +1,6 @@
 use Rattle.std.proofs.Common.{◌≡◌, ◌≤◌, length, map, take, vec_capacity}
 use Rattle.plant_ledger.specs.Account.{first_account}
-use Rattle.plant_ledger.proofs.ledger.first_accounts.Given as goal
+use Rattle.plant_ledger.proofs.lists.first_accounts.Given as goal
 
 abbrev pub invariant-loop-unit : goal.invariant-loop-unit
 invariant-loop-unit l = record {

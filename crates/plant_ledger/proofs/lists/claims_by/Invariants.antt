@@ -1,6 +1,6 @@
 use Rattle.std.proofs.Common.{◌≡◌, ◌≤◌, length, map, take, vec_capacity}
 use Rattle.plant_ledger.specs.Account.{claim_by}
-use Rattle.plant_ledger.proofs.ledger.claims_by.Given as goal
+use Rattle.plant_ledger.proofs.lists.claims_by.Given as goal
 
 abbrev pub invariant-loop-account : goal.invariant-loop-account
 invariant-loop-account l = record {
