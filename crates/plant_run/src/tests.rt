@@ -119,14 +119,26 @@ fn alone(alloc: Global, dialer: PlayDialer) -> Result<Ran, Fail> {
     )
 }
 
-/// The life of two inverters in one turn, of which the second has no link.
-fn pair(alloc: Global, dialer: PlayDialer) -> Result<Ran, Fail> {
+/// The life of two inverters over these dialers, in so many turns.
+fn pair(alloc: Global, dialers: [PlayDialer; 2], turns: u32) -> Result<Ran, Fail> {
     let (unit, rules) = (unit()?, rules()?);
     let plant = plant(alloc, vec![in alloc; unit, unit]?, rules)?;
-    let first = worker(alloc, unit, rules, 0, 1, 1_000);
-    let second = worker(alloc, unit, rules, 1, 1, 1_000);
-    let mut dialers = vec![in alloc; dialer, deaf(alloc)]?;
+    let first = worker(alloc, unit, rules, 0, turns, 1_000);
+    let second = worker(alloc, unit, rules, 1, turns, 1_000);
+    let mut dialers = Vec::from_array(alloc, dialers)?;
     lived(alloc, plant, vec![in alloc; first, second]?, &mut dialers)
+}
+
+/// A dialer of two links that take 1,000 bytes each, and answer nothing.
+fn silent_links(alloc: Global) -> Result<PlayDialer, AllocError> {
+    let mut links = Vec::new(alloc);
+    for _ in 0..2 {
+        links.push(PlayLink {
+            takes: 1_000,
+            moves: Vec::new(alloc),
+        })?;
+    }
+    Ok(PlayDialer::new(alloc, links, Vec::new(alloc)))
 }
 
 /// A dialer without a link.
@@ -167,22 +179,25 @@ fn silent(at: u64) -> Entry {
     }
 }
 
-fn granted(at: u64, number: u16) -> Entry {
-    let raw = 1_000;
-    let write = Write {
+fn write(number: u16, at: u64) -> Write {
+    Write {
         inverter: 0,
         link: 1,
         number,
         at,
-        raw,
+        raw: 1_000,
+    }
+}
+
+fn granted(at: u64, number: u16) -> Entry {
+    let call = Call::Ask {
+        at,
+        inverter: 0,
+        raw: 1_000,
     };
     Entry {
-        call: Call::Ask {
-            at,
-            inverter: 0,
-            raw,
-        },
-        reply: Reply::Granted(write),
+        call,
+        reply: Reply::Granted(write(number, at)),
     }
 }
 
@@ -210,6 +225,16 @@ fn saw(at: u64, number: u16, raw: u16, reply: Reply) -> Entry {
         raw,
     };
     Entry { call, reply }
+}
+
+/// A request as the log keeps it, sent behind this reading of the clock.
+fn sent(request: Asked, clock: u64) -> Sent {
+    Sent { request, clock }
+}
+
+/// A read-back as the log keeps it.
+fn sent_read(number: u16, at: u64, clock: u64) -> Sent {
+    sent(Asked::Read(read(number, at)), clock)
 }
 
 /// The reply to the read-back of this number, which shows this raw percentage in two bytes, and this floor.
@@ -252,16 +277,13 @@ fn has_seen(entries: &[Entry], last: Entry) -> bool {
 #[test]
 fn a_read_back_is_entered_and_sent(rt: HostRuntime) -> Result<(), Fail> {
     let alloc = rt.alloc();
-    let ran = pair(alloc, dialer(alloc, Vec::new(alloc))?)?;
+    let dialers = [dialer(alloc, Vec::new(alloc))?, deaf(alloc)];
+    let ran = pair(alloc, dialers, 1)?;
     assert_eq!(rt;
         ran.entries.as_slice(),
         [linked(2), silent(3), read_as(4, 1)].as_slice()
     );
-    let sent = Sent {
-        request: Asked::Read(read(1, 4)),
-        clock: 5,
-    };
-    assert_eq!(rt; ran.log.as_slice(), [sent].as_slice());
+    assert_eq!(rt; ran.log.as_slice(), [sent_read(1, 4, 5)].as_slice());
     Ok(())
 }
 
@@ -278,6 +300,12 @@ fn a_reply_that_comes_twice_is_passed_over(rt: HostRuntime) -> Result<(), Fail> 
         reserved: 6_000_000,
     };
     assert!(rt; has_seen(&ran.entries, saw(70_011, 3, 1_000, reply)));
+    let log = [
+        sent_read(1, 4, 5),
+        sent(Asked::Write(write(2, 70_007)), 70_008),
+        sent_read(3, 70_009, 70_010),
+    ];
+    assert_eq!(rt; ran.log.as_slice(), log.as_slice());
     Ok(())
 }
 
@@ -313,9 +341,27 @@ fn another_floor_ends_the_worker(rt: HostRuntime) -> Result<(), Fail> {
 
 #[test]
 fn without_a_link_nothing_is_entered(rt: HostRuntime) -> Result<(), Fail> {
-    let ran = pair(rt.alloc(), deaf(rt.alloc()))?;
+    let alloc = rt.alloc();
+    let ran = pair(alloc, [deaf(alloc), deaf(alloc)], 1)?;
     assert_eq!(rt; ran.entries.len(), 0);
     let over = Some(End::TurnsDone);
     assert_eq!(rt; ran.ends.as_slice(), [over, over].as_slice());
+    Ok(())
+}
+
+#[test]
+fn the_turns_go_round_in_order(rt: HostRuntime) -> Result<(), Fail> {
+    let alloc = rt.alloc();
+    let ran = pair(alloc, [silent_links(alloc)?, silent_links(alloc)?], 2)?;
+    let mut named = Vec::new(alloc);
+    for entry in &ran.entries {
+        named.push(entry.call.inverter())?;
+    }
+
+    // Each turn enters a Link, an Ask and a Read.
+    let (first, second) = (Some(0), Some(1));
+    let round = [first, first, first, second, second, second];
+    assert_eq!(rt; named.len(), 12);
+    assert!(rt; named.starts_with(&round) && named.ends_with(&round));
     Ok(())
 }
