@@ -69,3 +69,31 @@ fn a_pass_works_as_any_desk(rt: HostRuntime) -> Result<(), Fail> {
     assert_eq!(rt; plant.calls(), 1);
     Ok(())
 }
+
+/// Finds a book full that has room for two calls, by a call and by a ticket that is given back.
+fn finds_full<D: Desk>(rt: &impl Abort, desk: &mut D, ticket: Ticket)
+    requires { 0 < (D.state desk.old).inverters }
+    ensures inverters { (D.state desk.new).inverters ≡ (D.state desk.old).inverters }
+    ensures kept { D.kept desk.new ≡ D.kept desk.old }
+{
+    assert!(rt; ticket.write().inverter < 1);
+    let full = desk.call(Call::Tick { at: 66_702 }).err();
+    assert_eq!(rt; full, Some(BookFull { calls: 2 }));
+    let refused = desk.release(ticket, 66_702);
+    assert_eq!(rt; refused, Err(BookFull { calls: 2 }));
+}
+
+#[test]
+fn each_full_book_tells_its_own_calls(rt: HostRuntime) -> Result<(), Fail> {
+    let (shared, mut passes) = desk(&rt, rt.alloc(), 2, 1)?;
+    let mut one = DeskOf::new(&rt, &shared, taken(&shared, &mut passes)?);
+    let ticket = granted(&mut one)?;
+    finds_full(&rt, &mut one, ticket);
+    drop(one.roll(rt.alloc()).ok().ok_or("roll")?);
+    let ticket = granted(&mut one)?;
+    finds_full(&rt, &mut one, ticket);
+    hand_in(&shared, &mut passes, one.into_pass())?;
+    let plant = shared.close(passes).ok().ok_or("closed")?;
+    assert_eq!(rt; plant.calls(), 2);
+    Ok(())
+}
