@@ -1,10 +1,15 @@
+mod faults;
 mod links;
 mod loopback;
+mod pairs;
 mod plants;
 mod refusals;
 mod runs;
+mod sites;
+mod waits;
 
 use exporter_commands::{Ended, plain};
+use sites::{INVERTER, PLANT, site_file};
 use std::alloc::{AllocError, Global};
 use std::test::Fail;
 use world_traits::{BytesSink, BytesSource};
@@ -44,12 +49,28 @@ pub fn words(alloc: Global, line: &str) -> Result<Vec<String>, AllocError> {
     Ok(words)
 }
 
-/// How `plain` ends with these words and the script, and what it writes. The read and the write of these
+/// The first so many lines of a text.
+fn first_lines(alloc: Global, text: &str, count: usize) -> Result<String, AllocError> {
+    let mut first = String::new(alloc);
+    for line in text.lines().take(count) {
+        first.push_str(line)?;
+        first.push_str("\n")?;
+    }
+    Ok(first)
+}
+
+/// How `plain` ends with these words and this input, and what it writes. The read and the write of these
 /// numbers fail.
-fn run(alloc: Global, line: &str, read: u32, write: u32) -> Result<(Ended, BytesSink), Fail> {
+fn run(
+    alloc: Global,
+    line: &str,
+    input: &str,
+    read: u32,
+    write: u32,
+) -> Result<(Ended, BytesSink), Fail> {
     let words = words(alloc, line)?;
-    let script = Vec::from_slice(alloc, SCRIPT.as_bytes())?;
-    let mut input = BytesSource::new(script, vec![in alloc; read]?);
+    let input = Vec::from_slice(alloc, input.as_bytes())?;
+    let mut input = BytesSource::new(input, vec![in alloc; read]?);
     let mut output = BytesSink::new(alloc, vec![in alloc; write]?);
     let ended = plain(alloc, &words, &mut input, &mut output);
     Ok((ended, output))
@@ -66,7 +87,7 @@ fn replayed(alloc: Global, script: &[u8]) -> Result<BytesSink, Fail> {
 
 #[test]
 fn a_script_comes_out_as_the_text_of_its_lives(rt: HostRuntime) -> Result<(), Fail> {
-    let (ended, output) = run(rt.alloc(), "replay", 9, 9)?;
+    let (ended, output) = run(rt.alloc(), "replay", SCRIPT, 9, 9)?;
     assert_eq!(rt; ended, Ended::Done);
     assert_eq!(rt; output.taken(), LIVES.as_bytes());
     Ok(())
@@ -74,26 +95,59 @@ fn a_script_comes_out_as_the_text_of_its_lives(rt: HostRuntime) -> Result<(), Fa
 
 #[test]
 fn a_simulation_comes_out_as_its_summary(rt: HostRuntime) -> Result<(), Fail> {
-    let (ended, output) = run(rt.alloc(), "simulate 7 4 1000", 0, 9)?;
+    let (ended, output) = run(rt.alloc(), "simulate 7 4 1000", "", 0, 9)?;
     assert_eq!(rt; ended, Ended::Done);
     assert_eq!(rt; output.taken(), SUMMARY.as_bytes());
     Ok(())
 }
 
+/// The script behind a comment that is too long for one read.
+fn long_script(alloc: Global) -> Result<String, AllocError> {
+    let mut script = String::new(alloc);
+    for _ in 0..7_000 {
+        script.push_str("# comment\n")?;
+    }
+    script.push_str(SCRIPT)?;
+    Ok(script)
+}
+
 #[test]
-fn a_fault_behind_the_first_read_ends_the_replay(rt: HostRuntime) -> Result<(), Fail> {
-    let (ended, output) = run(rt.alloc(), "replay", 1, 9)?;
-    assert_eq!(rt; ended, Ended::ReadFault);
-    assert!(rt; output.taken().is_empty());
+fn an_input_that_fails_at_each_read(rt: HostRuntime) -> Result<(), Fail> {
+    let alloc = rt.alloc();
+    let script = long_script(alloc)?;
+
+    // The last read of each finds the end.
+    for (line, input, reads) in [
+        ("replay", script.as_str(), 3),
+        ("replay", SCRIPT, 2),
+        ("check", SCRIPT, 2),
+    ] {
+        for read in 0..reads {
+            let (ended, output) = run(alloc, line, input, read, 9)?;
+            assert_eq!(rt; ended, Ended::ReadFault, "{line}, read {read}");
+            assert!(rt; output.taken().is_empty());
+        }
+    }
+    let (ended, output) = run(alloc, "replay", script.as_str(), 3, 9)?;
+    assert_eq!(rt; ended, Ended::Done);
+    assert_eq!(rt; output.taken(), LIVES.as_bytes());
     Ok(())
 }
 
 #[test]
 fn a_fault_of_the_output_ends_each_command(rt: HostRuntime) -> Result<(), Fail> {
-    for line in ["replay", "simulate 7 4 1000"] {
-        let (ended, output) = run(rt.alloc(), line, 9, 0)?;
-        assert_eq!(rt; ended, Ended::WriteFault);
+    let alloc = rt.alloc();
+    let site = site_file(alloc, PLANT, &[INVERTER])?;
+    for (line, input) in [
+        ("replay", SCRIPT),
+        ("check", site.as_str()),
+        ("simulate 7 4 1000", ""),
+    ] {
+        let (ended, output) = run(alloc, line, input, 9, 0)?;
+        assert_eq!(rt; ended, Ended::WriteFault, "{line}");
         assert!(rt; output.taken().is_empty());
+        let (ended, _) = run(alloc, line, input, 9, 1)?;
+        assert_eq!(rt; ended, Ended::Done, "{line}");
     }
     Ok(())
 }

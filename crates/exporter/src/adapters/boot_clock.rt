@@ -45,7 +45,10 @@ impl<R: Wait + rt::Clock> Clock for BootClock<R> {
         unreachable!()
     }
 
+    // The system takes some 60 us to sleep for no time.
     fn rest(&self, ms: u64) {
-        self.rt.sleep(Duration::from_millis(ms));
+        if ms > 0 {
+            self.rt.sleep(Duration::from_millis(ms));
+        }
     }
 }

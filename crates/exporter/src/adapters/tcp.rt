@@ -1,5 +1,6 @@
-ghost use Rattle.std.specs.Prelude.{◌≡◌, ◌<◌, None, IfOk, length};
+ghost use Rattle.std.specs.Prelude.{◌≡◌, ◌<◌, ℕ, None, IfOk, Ok, length, take};
 ghost use Rattle.std.specs.Io.{WritesAtMost};
+ghost use Rattle.std.specs.Io.KnownBytes.{Consumes, IsAtEnd, WriteAppends};
 ghost use Rattle.world_traits.specs.Links.{FitsInto};
 
 use std::alloc::{AllocError, Global};
@@ -65,28 +66,25 @@ fn open<C: Opener>(opener: &mut C, host: &str, port: u16, wait: u32) -> io::Resu
     Ok(stream)
 }
 
-/// Sends the first of the bytes on the connection, where there is one.
-fn transmit(stream: &mut Option<TcpStream>, bytes: &[u8]) -> Result<usize, SendFailed>
+/// Sends the first of the bytes.
+fn transmit<W: Write>(stream: &mut W, bytes: &[u8]) -> Result<usize, SendFailed>
     ensures bound { WritesAtMost result bytes.now }
     ensures some { IfOk result (λ count. 0 < length bytes.now → 0 < count) }
+    ensures bytes { WriteAppends (W.contents stream.old) (W.contents stream.new) result bytes.now }
 {
-    let Some(stream) = stream else {
-        return Err(SendFailed);
-    };
     match stream.write(bytes) {
         Ok(count) if count > 0 || bytes.is_empty() => Ok(count),
         _ => Err(SendFailed),
     }
 }
 
-/// Receives from the connection, where there is one. A read that waited for nothing says that it would go on
-/// waiting.
-fn receive(stream: &mut Option<TcpStream>, into: &mut [u8]) -> Result<Received, RecvFailed>
-    ensures { IfOk result (FitsInto into.new) }
+/// Receives. A read that waited for nothing says that it would go on waiting.
+fn receive<R: Read>(stream: &mut R, into: &mut [u8]) -> Result<Received, RecvFailed>
+    ensures fits { IfOk result (FitsInto into.new) }
+    ensures bytes { (count : ℕ) → result ≡ Ok (Received.Bytes count)
+        → Consumes (R.remaining stream.old) (R.remaining stream.new) (take count into.new) }
+    ensures closed { result ≡ Ok Received.Closed → IsAtEnd (R.remaining stream.new) }
 {
-    let Some(stream) = stream else {
-        return Err(RecvFailed);
-    };
     if into.is_empty() {
         return Ok(Received::Quiet);
     }
@@ -117,7 +115,11 @@ impl<C: Opener> Dialer for TcpDialer<C> {
     }
 
     fn send(&mut self, bytes: &[u8]) -> Result<usize, SendFailed> {
-        match transmit(&mut self.stream, bytes) {
+        let sent = match &mut self.stream {
+            Some(stream) => transmit(stream, bytes),
+            None => Err(SendFailed),
+        };
+        match sent {
             Ok(count) => Ok(count),
             Err(failed) => {
                 self.faults = self.faults.saturating_add(1);
@@ -127,7 +129,11 @@ impl<C: Opener> Dialer for TcpDialer<C> {
     }
 
     fn recv(&mut self, into: &mut [u8]) -> Result<Received, RecvFailed> {
-        match receive(&mut self.stream, into) {
+        let came = match &mut self.stream {
+            Some(stream) => receive(stream, into),
+            None => Err(RecvFailed),
+        };
+        match came {
             Ok(received) => Ok(received),
             Err(failed) => {
                 self.stream = None;

@@ -1,39 +1,17 @@
 //! `live` over links in memory.
 ghost use Rattle.std.specs.Prelude.{◌≡◌, IfOk};
 
-use super::words;
+use super::sites::{INVERTER, PLANT, site_file};
+use super::{first_lines, words};
 use exporter_commands::{Ended, LiveFault, live};
 use inverter_sim::Bank;
 use limiter_num::{Rating, Rules};
 use plant_book::Unit;
 use plant_simulator::DeviceDialer;
-use std::alloc::Global;
+use std::alloc::{AllocError, Global};
 use std::process::Abort;
 use std::test::Fail;
 use world_traits::{BytesSink, BytesSource, Dialer, Link, Move, PlayDialer, PlayLink, StepClock};
-
-/// A site of one inverter.
-const SITE: &str = "cap = 10000000
-send = 1000
-delay = 4000
-timer = 60
-per_mille = 20
-slack = 500
-renew = 20000
-pause = 1000
-wait = 2000
-book = 2000
-policy = \"open\"
-[[inverter]]
-host = \"plant\"
-port = 5020
-unit = 1
-base = 40296
-wmax = 6000
-wsf = 0
-psf = -1
-floor = 100
-";
 
 /// What commissioning it writes.
 const COMMISSIONED: &str = "found base 40296 wmax 6000 wsf 0 psf -1
@@ -46,6 +24,22 @@ const FIRST_READ: [u8; 12] = [0, 1, 0, 0, 0, 6, 1, 3, 0x9C, 0x40, 0, 2];
 /// Its reply.
 const FIRST_REPLY: [u8; 13] = [0, 1, 0, 0, 0, 7, 1, 3, 4, 0x53, 0x75, 0x6E, 0x53];
 
+/// How `live` ends with these words over 64 dialers, with this site file and this output.
+pub fn run_with<N: Dialer + Send>(
+    rt: &impl Abort,
+    alloc: Global,
+    line: &str,
+    site: &mut BytesSource,
+    out: &mut BytesSink,
+    dialers: &mut Vec<N>,
+    clock: &StepClock,
+) -> Result<Ended, Fail> {
+    assert!(rt; dialers.len() == 64);
+    let words = words(alloc, line)?;
+    let mut console = BytesSource::new(Vec::new(alloc), Vec::new(alloc));
+    Ok(live(alloc, &words, site, &mut console, out, dialers, clock))
+}
+
 /// How `live` ends with these words, this site file and 64 dialers, and what it writes.
 pub fn run_over<N: Dialer + Send>(
     rt: &impl Abort,
@@ -55,31 +49,28 @@ pub fn run_over<N: Dialer + Send>(
     dialers: &mut Vec<N>,
     clock: &StepClock,
 ) -> Result<(Ended, BytesSink), Fail> {
-    assert!(rt; dialers.len() == 64);
-    let words = words(alloc, line)?;
     let mut site = BytesSource::new(Vec::from_slice(alloc, site.as_bytes())?, Vec::new(alloc));
-    let mut console = BytesSource::new(Vec::new(alloc), Vec::new(alloc));
     let mut out = BytesSink::new(alloc, Vec::new(alloc));
-    let ended = live(
-        alloc,
-        &words,
-        &mut site,
-        &mut console,
-        &mut out,
-        dialers,
-        clock,
-    );
+    let ended = run_with(rt, alloc, line, &mut site, &mut out, dialers, clock)?;
     Ok((ended, out))
 }
 
-/// The same with the site of one inverter.
+/// The same with a site of one inverter.
 fn run<N: Dialer + Send>(
     rt: &impl Abort,
     alloc: Global,
     line: &str,
     dialers: &mut Vec<N>,
 ) -> Result<(Ended, BytesSink), Fail> {
-    run_over(rt, alloc, SITE, line, dialers, &StepClock::new(0, 1))
+    let site = site_file(alloc, PLANT, &[INVERTER])?;
+    run_over(
+        rt,
+        alloc,
+        site.as_str(),
+        line,
+        dialers,
+        &StepClock::new(0, 1),
+    )
 }
 
 /// A simulation of an inverter of this many watts.
@@ -94,35 +85,60 @@ pub fn bank(rt: &impl Abort, watts: u16) -> Result<Bank, Fail>
     Ok(Bank::new(unit, rules, 1, after))
 }
 
-/// 64 dialers whose links reach a simulation of the inverter.
-fn devices<'c>(
+/// A dialer whose links reach a simulation of an inverter of this many watts. Its calls with these numbers fail.
+pub fn device<'c>(
     rt: &impl Abort,
     alloc: Global,
+    watts: u16,
     clock: &'c StepClock,
+    failing: Vec<u32>,
+) -> Result<DeviceDialer<'c, StepClock>, Fail> {
+    Ok(DeviceDialer::new(alloc, bank(rt, watts)?, clock, failing))
+}
+
+/// 64 dialers whose links reach simulations of such inverters. The calls with these numbers fail in each.
+pub fn devices<'c>(
+    rt: &impl Abort,
+    alloc: Global,
+    watts: u16,
+    clock: &'c StepClock,
+    failing: &[u32],
 ) -> Result<Vec<DeviceDialer<'c, StepClock>>, Fail> {
     let mut dialers = Vec::new(alloc);
     for _ in 0..64 {
-        let bank = bank(rt, 6_000)?;
-        dialers.push(DeviceDialer::new(alloc, bank, clock, Vec::new(alloc)))?;
+        let failing = Vec::from_slice(alloc, failing)?;
+        dialers.push(device(rt, alloc, watts, clock, failing)?)?;
     }
     Ok(dialers)
 }
 
-/// 64 dialers, of which the first has one link, which takes so many bytes and plays this move.
-fn players(alloc: Global, takes: u32, played: Move) -> Result<Vec<PlayDialer>, Fail> {
-    let moves = vec![in alloc; played]?;
-    let links = vec![in alloc; PlayLink { takes, moves }]?;
-    let mut dialers = vec![in alloc; PlayDialer::new(alloc, links, Vec::new(alloc))]?;
+/// 64 dialers, of which the first is this one, and the others have no link.
+pub fn with_first(alloc: Global, first: PlayDialer) -> Result<Vec<PlayDialer>, AllocError> {
+    let mut dialers = vec![in alloc; first]?;
     for _ in 1..64 {
         dialers.push(PlayDialer::new(alloc, Vec::new(alloc), Vec::new(alloc)))?;
     }
     Ok(dialers)
 }
 
+/// 64 dialers, of which the first has one link, which takes so many bytes and plays this move. Its calls with these
+/// numbers fail.
+fn players(
+    alloc: Global,
+    takes: u32,
+    played: Move,
+    failing: &[u32],
+) -> Result<Vec<PlayDialer>, AllocError> {
+    let moves = vec![in alloc; played]?;
+    let links = vec![in alloc; PlayLink { takes, moves }]?;
+    let failing = Vec::from_slice(alloc, failing)?;
+    with_first(alloc, PlayDialer::new(alloc, links, failing))
+}
+
 #[test]
 fn an_inverter_as_the_site_file_says_is_commissioned(rt: HostRuntime) -> Result<(), Fail> {
     let clock = StepClock::new(0, 1);
-    let mut dialers = devices(&rt, rt.alloc(), &clock)?;
+    let mut dialers = devices(&rt, rt.alloc(), 6_000, &clock, &[])?;
     let (ended, out) = run(&rt, rt.alloc(), "commission 0", &mut dialers)?;
     assert_eq!(rt; ended, Ended::Done);
     assert_eq!(rt; out.taken(), COMMISSIONED.as_bytes());
@@ -131,7 +147,7 @@ fn an_inverter_as_the_site_file_says_is_commissioned(rt: HostRuntime) -> Result<
 
 #[test]
 fn a_link_that_takes_half_a_request(rt: HostRuntime) -> Result<(), Fail> {
-    let mut dialers = players(rt.alloc(), 5, Move::Quiet)?;
+    let mut dialers = players(rt.alloc(), 5, Move::Quiet, &[])?;
     let (ended, out) = run(&rt, rt.alloc(), "commission 0", &mut dialers)?;
     assert_eq!(rt; ended, Ended::Refused(LiveFault::Send));
     assert!(rt; out.taken().is_empty());
@@ -149,12 +165,65 @@ fn is_answered(link: &Link) -> bool {
 #[test]
 fn a_served_inverter_answers_the_first_read(rt: HostRuntime) -> Result<(), Fail> {
     let read = Move::Bytes(Vec::from_slice(rt.alloc(), &FIRST_READ)?);
-    let mut dialers = players(rt.alloc(), 100, read)?;
+    let mut dialers = players(rt.alloc(), 100, read, &[])?;
     let (ended, out) = run(&rt, rt.alloc(), "serve 0 3", &mut dialers)?;
     assert_eq!(rt; ended, Ended::Done);
     assert!(rt; out.taken().is_empty());
     let log = dialers.first().ok_or("the first dialer")?.log();
     assert_eq!(rt; log.count(), 1);
     assert!(rt; log.link(0).is_some_and(is_answered));
+    Ok(())
+}
+
+/// How many calls of the dialer commissioning makes: a dial, and a send and a receive for each of 11 requests. These are
+/// for the mark, six headers (of the models 1, 701 to 704, and the end), two models, the write and the read-back.
+const CALLS: u32 = 23;
+
+/// The call that receives the second of the two models, so that the line of what was found is written.
+const FOUND: u32 = 18;
+
+/// How commissioning ends where the dialer's call of this number fails, and how many lines are written.
+fn end_at(call: u32) -> (Ended, usize) {
+    let lines = usize::from(call > FOUND);
+    match call {
+        0 => (Ended::Refused(LiveFault::Dial), lines),
+        CALLS => (Ended::Done, 2),
+        _ if call % 2 == 1 => (Ended::Refused(LiveFault::Send), lines),
+        _ => (Ended::Refused(LiveFault::Recv), lines),
+    }
+}
+
+#[test]
+fn a_commissioning_whose_dialer_fails_at_each_call(rt: HostRuntime) -> Result<(), Fail> {
+    let alloc = rt.alloc();
+    let clock = StepClock::new(0, 1);
+    for call in 0..=CALLS {
+        let mut dialers = devices(&rt, alloc, 6_000, &clock, &[call])?;
+        let (ended, out) = run(&rt, alloc, "commission 0", &mut dialers)?;
+        let (wanted, lines) = end_at(call);
+        let text = first_lines(alloc, COMMISSIONED, lines)?;
+        assert_eq!(rt; ended, wanted, "call {call}");
+        assert_eq!(rt; out.taken(), text.as_bytes(), "call {call}");
+    }
+    Ok(())
+}
+
+#[test]
+fn a_served_inverter_whose_dialer_fails_at_each_call(rt: HostRuntime) -> Result<(), Fail> {
+    let alloc = rt.alloc();
+
+    // It waits for a connection, receives, answers, and receives; each failure but that of the send takes a turn.
+    for (call, is_answered) in [(0, true), (1, false), (2, false), (3, true)] {
+        let read = Move::Bytes(Vec::from_slice(alloc, &FIRST_READ)?);
+        let mut dialers = players(alloc, 100, read, &[call])?;
+        let (ended, out) = run(&rt, alloc, "serve 0 3", &mut dialers)?;
+        assert_eq!(rt; ended, Ended::Done, "call {call}");
+        assert!(rt; out.taken().is_empty());
+        let log = dialers.first().ok_or("the first dialer")?.log();
+        let sent = log.link(0).ok_or("a link")?.sent();
+        assert_eq!(rt; log.count(), 1, "call {call}");
+        assert_eq!(rt; sent == FIRST_REPLY.as_slice(), is_answered, "call {call}");
+        assert_eq!(rt; sent.is_empty(), !is_answered, "call {call}");
+    }
     Ok(())
 }

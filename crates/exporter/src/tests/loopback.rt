@@ -1,4 +1,5 @@
 //! `live` in two threads of one process, over TCP on this machine.
+use super::sites::{INVERTER, Inverter, PLANT, Plant, site_file};
 use super::words;
 use crate::adapters::{BootClock, Calling, Listening, Opener, TcpDialer};
 use exporter_commands::{Ended, LiveFault, live};
@@ -7,27 +8,12 @@ use std::test::Fail;
 use std::thread;
 use world_traits::{BytesSink, BytesSource, Clock};
 
-/// A site of one inverter on this machine, but for its port.
-const SITE: &str = "cap = 10000000
-send = 1000
-delay = 4000
-timer = 60
-per_mille = 20
-slack = 500
-renew = 20000
-pause = 10
-wait = 100
-book = 2000
-policy = \"open\"
-[[inverter]]
-host = \"127.0.0.1\"
-unit = 1
-base = 40296
-wmax = 6000
-wsf = 0
-psf = -1
-floor = 100
-";
+/// A plant whose worker hardly rests.
+const QUICK: Plant = Plant {
+    pause: 10,
+    wait: 100,
+    ..PLANT
+};
 
 /// How `live` ends with these words, where links to this port come about in this way.
 fn run<C: Opener<Runtime = HostRuntime> + Send, K: Clock + Sync>(
@@ -38,7 +24,12 @@ fn run<C: Opener<Runtime = HostRuntime> + Send, K: Clock + Sync>(
 ) -> Result<Ended, AllocError> {
     let alloc = rt.alloc();
     let words = words(alloc, line)?;
-    let text = format!(in alloc; "{SITE}port = {port}\n")?;
+    let inverter = Inverter {
+        host: "127.0.0.1",
+        port,
+        ..INVERTER
+    };
+    let text = site_file(alloc, QUICK, &[inverter])?;
     let mut site = BytesSource::new(Vec::from_slice(alloc, text.as_bytes())?, Vec::new(alloc));
     let mut console = BytesSource::new(Vec::new(alloc), Vec::new(alloc));
     let mut out = BytesSink::new(alloc, Vec::new(alloc));

@@ -1,8 +1,9 @@
 //! `run` over simulated inverters in memory.
 ghost use Rattle.std.specs.Prelude.{◌≡◌, ◌≤◌, IfSome};
 
-use super::links::{bank, run_over};
+use super::links::{device, devices, run_over};
 use super::replayed;
+use super::sites::{Inverter, PLANT, Plant, site_file};
 use exporter_commands::Ended;
 use plant_simulator::{CutDialer, DeviceDialer};
 use std::alloc::{AllocError, Global};
@@ -10,33 +11,13 @@ use std::process::Abort;
 use std::test::Fail;
 use world_traits::{Link, StepClock};
 
-/// What a site file has before its inverters.
-const SITE: &str = "cap = 10000000
-send = 1000
-delay = 4000
-timer = 60
-per_mille = 20
-slack = 500
-renew = 20000
-pause = 1000
-wait = 2000
-book = 2000
-policy = \"open\"
-";
-
-/// The site file of a plant of twelve, which doesn't give all of them their rating.
-const LARGE_SITE: &str = "cap = 400000000
-send = 1000
-delay = 4000
-timer = 60
-per_mille = 20
-slack = 500
-renew = 20000
-pause = 1000
-wait = 2000
-book = 100000
-policy = \"fair\"
-";
+/// A plant of twelve inverters of 50 kW, which doesn't give all of them their rating.
+const LARGE: Plant = Plant {
+    cap: 400_000_000,
+    book: 100_000,
+    policy: "fair",
+    ..PLANT
+};
 
 /// What the first 7 bytes of a write's frame end with: the protocol, the length and the unit number.
 const CUT_END: [u8; 5] = [0, 0, 0, 19, 1];
@@ -44,36 +25,17 @@ const CUT_END: [u8; 5] = [0, 0, 0, 19, 1];
 /// How many bytes the frame of a read-back has.
 const READ_BYTES: usize = 12;
 
-/// The site file with so many inverters of this many watts.
-fn site(alloc: Global, begin: &str, inverters: u16, watts: u16) -> Result<String, AllocError> {
-    let mut text = String::from_str(alloc, begin)?;
-    for inverter in 0..inverters {
-        let port = 5_020 + inverter % 64;
-        let table = format!(in alloc;
-            "[[inverter]]
-host = \"localhost\"
-port = {port}
-unit = 1
-base = 40296
-wmax = {watts}
-wsf = 0
-psf = -1
-floor = 100
-"
-        )?;
-        text.push_str(table.as_str())?;
+/// So many inverters of this many watts, at ports of their own.
+fn inverters(alloc: Global, count: u16, watts: u16) -> Result<Vec<Inverter>, AllocError> {
+    let mut all = Vec::new(alloc);
+    for number in 0..count {
+        all.push(Inverter {
+            host: "localhost",
+            port: 5_020 + number % 64,
+            watts,
+        })?;
     }
-    Ok(text)
-}
-
-/// A dialer whose links reach a simulation of an inverter of this many watts.
-fn device<'c>(
-    rt: &impl Abort,
-    alloc: Global,
-    watts: u16,
-    clock: &'c StepClock,
-) -> Result<DeviceDialer<'c, StepClock>, Fail> {
-    Ok(DeviceDialer::new(alloc, bank(rt, watts)?, clock, Vec::new(alloc)))
+    Ok(all)
 }
 
 /// 64 dialers that reach simulations of inverters of 6 kW, of which the first cuts a frame.
@@ -82,10 +44,10 @@ fn cut_dialers<'c>(
     alloc: Global,
     clock: &'c StepClock,
 ) -> Result<Vec<CutDialer<DeviceDialer<'c, StepClock>>>, Fail> {
-    let first = CutDialer::new(device(rt, alloc, 6_000, clock)?, Some(7));
+    let first = CutDialer::new(device(rt, alloc, 6_000, clock, Vec::new(alloc))?, Some(7));
     let mut dialers = vec![in alloc; first]?;
     for _ in 1..64 {
-        dialers.push(CutDialer::new(device(rt, alloc, 6_000, clock)?, None))?;
+        dialers.push(CutDialer::new(device(rt, alloc, 6_000, clock, Vec::new(alloc))?, None))?;
     }
     Ok(dialers)
 }
@@ -100,7 +62,7 @@ fn a_write_that_was_cut_short(rt: HostRuntime) -> Result<(), Fail> {
     let alloc = rt.alloc();
     let clock = StepClock::new(0, 1);
     let mut dialers = cut_dialers(&rt, alloc, &clock)?;
-    let site = site(alloc, SITE, 2, 6_000)?;
+    let site = site_file(alloc, PLANT, &inverters(alloc, 2, 6_000)?)?;
     let (ended, out) = run_over(&rt, alloc, site.as_str(), "run 200", &mut dialers, &clock)?;
     assert_eq!(rt; ended, Ended::Done);
     let log = dialers.first().ok_or("the first dialer")?.inner().log();
@@ -113,19 +75,6 @@ fn a_write_that_was_cut_short(rt: HostRuntime) -> Result<(), Fail> {
     let again = replayed(alloc, out.taken())?;
     assert!(rt; again.taken() == book);
     Ok(())
-}
-
-/// 64 dialers that reach simulations of inverters of 50 kW.
-fn devices<'c>(
-    rt: &impl Abort,
-    alloc: Global,
-    clock: &'c StepClock,
-) -> Result<Vec<DeviceDialer<'c, StepClock>>, Fail> {
-    let mut dialers = Vec::new(alloc);
-    for _ in 0..64 {
-        dialers.push(device(rt, alloc, 50_000, clock)?)?;
-    }
-    Ok(dialers)
 }
 
 /// The raw percentage of the first write that an inverter of this number is granted.
@@ -146,8 +95,8 @@ fn first_granted<'t>(text: &'t str, inverter: u8) -> Option<&'t str> {
 fn a_plant_of_twelve(rt: HostRuntime) -> Result<(), Fail> {
     let alloc = rt.alloc();
     let clock = StepClock::new(0, 1);
-    let mut dialers = devices(&rt, alloc, &clock)?;
-    let site = site(alloc, LARGE_SITE, 12, 50_000)?;
+    let mut dialers = devices(&rt, alloc, 50_000, &clock, &[])?;
+    let site = site_file(alloc, LARGE, &inverters(alloc, 12, 50_000)?)?;
     let (ended, out) = run_over(&rt, alloc, site.as_str(), "run 1000", &mut dialers, &clock)?;
     assert_eq!(rt; ended, Ended::Done);
     let text = std::str::from_utf8(out.taken()).ok().ok_or("text")?;
