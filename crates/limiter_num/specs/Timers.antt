@@ -18,9 +18,8 @@ tmin rules = rules.timer * 1000 * (1000 - rules.per_mille) / 1000 - rules.slack
 unfoldable pub reach : Rules → ℕ
 reach rules = rules.send + rules.delay + tmax rules
 
--- the last moment at which a write that was granted at this moment may act: sent at the end of its window,
--- and
--- as late as a frame may be
+-- the last moment at which a write that was granted at this moment may act: sent at the end of its window, and as
+-- late as a frame may be
 abbrev pub last_act : Rules → ℕ → ℕ
 last_act rules at = at + rules.send + rules.delay
 

@@ -10,9 +10,10 @@ use std::fmt;
 use std::fmt::{Display, Formatter};
 use thiserror::Error;
 
-/// The most bytes that a frame has: a header of seven and a PDU (Modbus Application Protocol V1.1b3, section
-/// 4.1).
+/// The most bytes that a frame has: a header of seven and a PDU (Modbus Application Protocol V1.1b3, section 4.1).
 pub const MAX_FRAME: usize = 260;
+
+const _: () = prove!(MAX_FRAME == 260);
 
 // The protocol number of Modbus (section 3.1.3).
 const PROTOCOL: u16 = 0;

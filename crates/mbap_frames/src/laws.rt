@@ -5,22 +5,13 @@ ghost use Rattle.modbus_pdu.specs.Grammar.{IsByte};
 ghost use Rattle.mbap_frames.specs.declared.frame.Frame.{Frame};
 ghost use Rattle.mbap_frames.specs.declared.frame.FrameFault.{FrameFault};
 ghost use Rattle.mbap_frames.specs.declared.frames.Fed.{Fed};
-ghost use Rattle.mbap_frames.specs.Frame.{IsFrame, frame_limit};
+ghost use Rattle.mbap_frames.specs.Frame.{IsFrame};
 ghost use Rattle.mbap_frames.specs.Stream.{IsUnfinished, HasFault, fault_end, IsStream};
 ghost use Rattle.mbap_frames.specs.Stream.{HasFaultBehind, frames_spelling};
 ghost use Rattle.mbap_frames.specs.Feed.{frames_of, IsFed, Feeding, AnswersFault, AreFeedings};
 ghost use Rattle.mbap_frames.specs.Feed.{stream_of, frames_among};
 
-use crate::frame::{FrameBytes, MAX_FRAME};
 use crate::frames::Got;
-
-/// The limit is that of the standard. The bytes of a frame have room for just so many, which the number is.
-pub fn limit_of_the_standard(bytes: &FrameBytes) -> usize
-    ensures frame { MAX_FRAME ≡ frame_limit }
-    ensures room { result ≡ frame_limit }
-{
-    bytes.capacity()
-}
 
 /// A stream has one reading.
 pub fn one_reading_a_stream()

@@ -11,8 +11,7 @@ mod laws;
 pub use frame::{Frame, FrameBytes, FrameFault, MAX_FRAME, frame_bytes};
 pub use frames::{Fed, Frames, Got};
 pub use laws::{
-    calls_find_the_fault, calls_read_the_stream, known_frames_are_first, limit_of_the_standard,
-    one_reading_a_stream,
+    calls_find_the_fault, calls_read_the_stream, known_frames_are_first, one_reading_a_stream,
 };
 
 #[cfg(test)]

@@ -106,7 +106,6 @@ fn requests_are_read_and_written_again(rt: HostRuntime) -> Result<(), Fail> {
             pdu: encode_request(&request),
         };
         assert_eq!(rt; frame_bytes(&again).as_slice(), bytes);
-        assert_eq!(rt; limit_of_the_standard(&frame_bytes(&again)), 260);
     }
     Ok(())
 }

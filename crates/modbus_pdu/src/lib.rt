@@ -10,7 +10,7 @@ mod pdu;
 
 pub use decoding::{decode_reply, decode_request};
 pub use encoding::{encode_reply, encode_request};
-pub use laws::{limits_of_the_standard, one_spelling_a_reply, one_spelling_a_request};
+pub use laws::{one_spelling_a_reply, one_spelling_a_request};
 pub use pdu::{
     EXCEPTION_BIT, MAX_PDU, MAX_READ, MAX_REGISTERS, MAX_WRITE, Pdu, READ_REGISTERS, Regs, Reply,
     Request, WRITE_REGISTERS,

@@ -22,6 +22,10 @@ pub const MAX_REGISTERS: usize = MAX_READ as usize;
 /// The most bytes of one protocol data unit, function byte and all (section 4.1).
 pub const MAX_PDU: usize = 253;
 
+const _: () = prove!(READ_REGISTERS == 3 && WRITE_REGISTERS == 16 && EXCEPTION_BIT == 128);
+
+const _: () = prove!(MAX_READ == 125 && MAX_WRITE == 123 && MAX_PDU == 253);
+
 /// The bytes of one protocol data unit, function byte and all.
 pub type Pdu = FixedList<u8, MAX_PDU>;
 

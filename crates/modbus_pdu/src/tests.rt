@@ -25,10 +25,6 @@ fn a_read_asks_for_1_to_125_registers(rt: HostRuntime) {
         );
     }
     assert_eq!(rt; decode_request(&[0x03, 0, 0, 0, 0x7D, 0]), None);
-    assert_eq!(rt;
-        limits_of_the_standard(&Pdu::new(), &Regs::new()),
-        (253, 125)
-    );
 }
 
 #[test]

@@ -70,9 +70,8 @@ reply_to_read book now inverter =
 abbrev pub is_raw_of : ℕ → ℕ → List writes.Write → Bool
 is_raw_of floor raw its_writes = (raw == floor) || list_any (λ write. write.raw == raw) its_writes
 
--- the reply to a Saw of this pending read, where these are the live writes: a raw percentage that is neither
--- the floor
--- nor that of a live write is strange; else the writes that the look settles, and whose raw percentage
+-- the reply to a Saw of this pending read, where these are the live writes: a raw percentage that is neither the
+-- floor nor that of a live write is strange; else the writes that the look settles, and whose raw percentage
 -- differs, are free
 abbrev pub reply_to_sight : SiteRecord → ℕ → Option reads.Read → ℕ → List writes.Write → Reply
 reply_to_sight site inverter pending raw its_writes =

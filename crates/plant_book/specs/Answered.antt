@@ -28,8 +28,7 @@ IsAnswer book before entry = entry.reply ≡ reply_to (with_entries book before)
 abbrev pub IsAnswered : BookRecord → Type 0
 IsAnswered book = EachInTurn (IsAnswer book) [] book.entries
 
--- the numbers of a call are in the ranges of what they count: 16 bits for a raw percentage and a request, 32
--- for a
+-- the numbers of a call are in the ranges of what they count: 16 bits for a raw percentage and a request, 32 for a
 -- link, and at most 10^14 mW for a wish and for a cap
 abbrev pub IsInRange : Call → Type 0
 IsInRange (calls.Link at inverter) = Unit {0}

@@ -1,5 +1,4 @@
--- What an inverter may have done over a history: the timed device. A whole write acts at once and starts its
--- timer
+-- What an inverter may have done over a history: the timed device. A whole write acts at once and starts its timer
 -- anew; when the timer runs out the inverter goes back to its floor.
 use Rattle.std.specs.Prelude.{◌≡◌, ℕ, ◌+◌, ◌≤◌, ◌==◌, ◌&&◌, Bool, true, false, List, [], ◌∷◌, ◌++◌, find, Option, Some, None, IsSomeAnd, count_by, Contains}
 use Rattle.limiter_num.specs.declared.rules.Rules.{Rules}
@@ -121,9 +120,8 @@ abbrev pub IsUnseen : History → ℕ → Type 0
 IsUnseen history inverter = (sight : Sight) → Contains (sights history) sight
     → sight.read.inverter ≡ inverter → ⊥
 
--- The only answered read of an inverter may have shown a write that acted at this moment and was looked at at
--- this one:
--- the write was not granted behind the Saw, on its link it is no later request, and its raw percentage was
+-- The only answered read of an inverter may have shown a write that acted at this moment and was looked at at this
+-- one: the write was not granted behind the Saw, on its link it is no later request, and its raw percentage was
 -- shown.
 pub record MayShow (history : History) (inverter : ℕ) (grant : Grant) (sight : Sight)
     (acted looked : ℕ) : Type 0 where

@@ -8,8 +8,7 @@ IsNoLook (Act grant) = Unit {0}
 IsNoLook Revert = Unit {0}
 IsNoLook (Look sight) = ⊥
 
--- A cut of a behaviour at a moment: what came up to it, all Looks among it, and what comes from it on. Events
--- of
+-- A cut of a behaviour at a moment: what came up to it, all Looks among it, and what comes from it on. Events of
 -- that very moment may stand on either side.
 pub record IsCut (events : List Timed) (at : ℕ) (first rest : List Timed) : Type 0 where
   pub parts : events ≡ first ++ rest

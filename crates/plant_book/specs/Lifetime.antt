@@ -28,8 +28,7 @@ abbrev pub stays_by : Rules → List Entry → Entry → writes.Write → Bool
 stays_by rules before entry write = not (ends rules before entry write)
     && nat_le (moment entry.call) (last_moment rules write.at)
 
--- of these writes those that an entry, behind these before it, neither gives back nor frees, and that are not
--- past
+-- of these writes those that an entry, behind these before it, neither gives back nor frees, and that are not past
 -- their last moment at its own
 abbrev pub left_after : Rules → List Entry → Entry → List writes.Write → List writes.Write
 left_after rules before entry its_writes =
@@ -40,9 +39,8 @@ left_after rules before entry its_writes =
 abbrev pub granted_to : ℕ → Entry → List writes.Write
 granted_to inverter entry = filter (λ write. write.inverter == inverter) (grant_of entry)
 
--- A write stays reserved until it is given back, freed or past, and at that very call it is gone: what is
--- reserved for
--- each inverter after an entry covers the writes that were live before and are left, and the one that is
+-- A write stays reserved until it is given back, freed or past, and at that very call it is gone: what is reserved
+-- for each inverter after an entry covers the writes that were live before and are left, and the one that is
 -- granted.
 abbrev pub LiveOn : BookRecord → Entry → BookRecord → Type 0
 LiveOn old entry new = (inverter : ℕ) → reserved new inverter

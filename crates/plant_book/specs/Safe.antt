@@ -15,10 +15,8 @@ use Rattle.plant_book.specs.Held.{IsCut}
 abbrev pub held_mw : SiteRecord → ℕ → List Timed → ℕ
 held_mw site inverter events = mw_at site inverter (held site inverter events)
 
--- For each set of inverters, each choice of a behaviour for each inverter of the set, each moment from the
--- last of
--- the history on, and each choice of cuts at it: the limits that the set holds and what is reserved for the
--- others
+-- For each set of inverters, each choice of a behaviour for each inverter of the set, each moment from the last of
+-- the history on, and each choice of cuts at it: the limits that the set holds and what is reserved for the others
 -- sum to at most the ceiling of the last life.
 abbrev pub IsSafe : History → Type 0
 IsSafe history = (among : ℕ → Bool) (events first rest : ℕ → List Timed) (at : ℕ)
@@ -42,8 +40,7 @@ up_to history before book count = record {
       (take count book.entries);
 }
 
--- A history is safe at every moment where each prefix of it is safe: its first lives, and of the last of them
--- any
+-- A history is safe at every moment where each prefix of it is safe: its first lives, and of the last of them any
 -- first entries.
 abbrev pub IsSafeAlways : History → Type 0
 IsSafeAlways history = (before later : List BookRecord) (book : BookRecord) (count : ℕ)

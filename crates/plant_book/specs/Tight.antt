@@ -18,9 +18,8 @@ IsUnreadSince entries write = (before later : List Entry) (entry : Entry)
     → entries ≡ before ++ entry ∷ later → Contains (grant_of entry) write
     → AllByRecursion (λ one. is_sight write.inverter one ≡ false) later
 
--- A behaviour of the write's inverter, a moment from the last of the history on, and a cut at it, at which an
--- Act of the
--- write is the last change: its raw percentage is held.
+-- A behaviour of the write's inverter, a moment from the last of the history on, and a cut at it, at which an Act
+-- of the write is the last change: its raw percentage is held.
 pub record MayHold (history : History) (write : writes.Write) : Type 0 where
   pub events : List Timed
   pub behaviour : IsBehaviour history write.inverter events
@@ -35,8 +34,7 @@ pub record MayHold (history : History) (write : writes.Write) : Type 0 where
   pub holds : last_that is_change first ≡ Some (record { at = acted; event = Act grant })
 
 -- A commissioned life is tight: each live write since whose grant no read of its inverter was answered may be
--- held, if
--- the inverter has a behaviour at all.
+-- held, if the inverter has a behaviour at all.
 abbrev pub IsTight : BookRecord → Type 0
 IsTight book = (write : writes.Write) (events : List Timed)
     → Contains (live book.site.rules book.entries (now_of book) write.inverter) write

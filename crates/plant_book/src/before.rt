@@ -1,7 +1,7 @@
 //! What the books before a book left.
 ghost use Rattle.std.specs.Prelude.{◌≡◌, ◌<◌, ◌≤◌, [], length, MatchOption};
 ghost use Rattle.plant_book.specs.Site.{inverters};
-ghost use Rattle.plant_book.specs.Part.{book_before, calls_carried};
+ghost use Rattle.plant_book.specs.Part.{book_before};
 ghost use Rattle.plant_book.specs.Carry.{unit_of, live_writes, mark_of, EachBefore};
 ghost use Rattle.plant_book.specs.Requests as counted;
 ghost use Rattle.plant_book.specs.Policy as policy;
@@ -118,16 +118,5 @@ pub fn stop_before(book: &Book) -> bool
     match &book.carry {
         Some(carry) => carry.stop,
         None => false,
-    }
-}
-
-/// How many calls the life had before the book.
-pub fn calls_before(book: &Book) -> u32
-    ensures calls { result ≡ calls_carried book.now.carry }
-    ensures length { EachBefore book.now (λ before. result ≡ length before) }
-{
-    match &book.carry {
-        Some(carry) => carry.calls,
-        None => 0,
     }
 }

@@ -21,11 +21,9 @@ pub fn histories_are_safe()
     ensures { (history : History) → IsHistory history → IsSafeAlways history }
 {}
 
-/// The timed device is no empty premise. An inverter of which no read was answered may have done nothing, and
-/// each
+/// The timed device is no empty premise. An inverter of which no read was answered may have done nothing, and each
 /// write that may act may have acted at the last moment at which it may. A write may have acted and then been
-/// shown by
-/// the only answered read.
+/// shown by the only answered read.
 pub fn behaviours_exist()
     ensures idle { (history : History) (inverter : ℕ) → IsUnseen history inverter
         → IsBehaviour history inverter [] }
@@ -37,8 +35,7 @@ pub fn behaviours_exist()
         → IsBehaviour history inverter (acts_and_shows history.life.site.rules grant sight acted looked) }
 {}
 
-/// A reservation stays until its write is given back, freed or past, and is gone at that very call. A refused
-/// call
+/// A reservation stays until its write is given back, freed or past, and is gone at that very call. A refused call
 /// changes no reservation beyond what is past by its moment.
 pub fn reservations_live_on()
     ensures lifetime { (book : BookRecord) (entry : Entry)
@@ -51,11 +48,9 @@ pub fn reservations_live_on()
         → ChangesNothing book entry (with_entries book (book.entries ++ entry ∷ [])) }
 {}
 
-/// A ledger that knows only the calls could free no write sooner: of a life that began with every inverter at
-/// its floor,
-/// each live write since whose grant no read of its inverter was answered may be held, by an inverter that
-/// follows the
-/// timed device, at a moment from the last of the book on.
+/// A ledger that knows only the calls could free no write sooner: of a life that began with every inverter at its
+/// floor, each live write since whose grant no read of its inverter was answered may be held, by an inverter that
+/// follows the timed device, at a moment from the last of the book on.
 pub fn no_write_could_go_sooner()
     ensures { (book : BookRecord) → IsBook book → IsTight book }
 {}

@@ -17,7 +17,6 @@ mod port;
 mod replies;
 mod requests;
 mod reserved;
-mod rolling;
 mod site;
 
 pub use book::{Book, ENTRY_BYTES_MAX, Entry};
@@ -31,6 +30,5 @@ pub use laws::{
 };
 pub use port::Port;
 pub use replies::{answer, goal_plain, is_stopped, reserved_plain, total_plain};
-pub use rolling::carry_after;
 pub use share_policy::{Claim, Policy};
 pub use site::{CAP_MAX, FloorOut, INVERTERS_MAX, ROOM_MAX, Site, Unit};
