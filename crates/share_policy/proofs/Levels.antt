@@ -6,20 +6,9 @@ use Rattle.std.proofs.lemmas.List.Sorted.{sum_by-IsPermutation}
 use Rattle.std.proofs.lemmas.Bool.{le-leb, lt-leb, leb-false, leb-true, cases_Bool, cases_lt}
 use Rattle.share_policy.specs.declared.claim.Claim.{Claim}
 use Rattle.share_policy.specs.Shares.{share_at, level_of}
-use Rattle.share_policy.proofs.Greatest.{greatest_up_to-step, greatest_up_to-same, greatest_up_to-le, greatest_up_to-most, greatest_up_to-passes}
+use Rattle.share_policy.proofs.Greatest.{greatest_up_to-same, greatest_up_to-le, greatest_up_to-most, greatest_up_to-passes}
 use Rattle.limiter_num.specs.Greatest.{greatest_up_to}
 use Rattle.share_policy.proofs.Totals.{shares_mono}
-
--- a level at which the shares fit under the cap, where they don't a milliwatt above it, is the level
-pub level_of-step : (cap level : ℕ) (claims : List Claim) → level ≤ cap → sum_by (share_at level) claims ≤ cap
-    → (level < cap → cap < sum_by (share_at (level + 1)) claims) → level_of cap claims ≡ level
-unfolding level_of
-level_of-step cap level claims high within tight =
-    greatest_up_to-step cap level (λ k. leb (sum_by (share_at k) claims) cap)
-    (λ i j le fails. lt-leb (sum_by (share_at j) claims) cap (omega (arith, leb-false (sum_by (share_at i) claims) cap fails, shares_mono i j le claims)))
-    high
-    (le-leb (sum_by (share_at level) claims) cap within)
-    (λ below. lt-leb (sum_by (share_at (level + 1)) claims) cap (tight below))
 
 -- where the shares at a level fit under the cap, the level is at most the greatest, and where they don't it is above it
 pub level_of-reached : (cap level : ℕ) (claims : List Claim) → sum_by (share_at 0) claims ≤ cap → level ≤ cap
@@ -66,3 +55,21 @@ map-range_same first (suc count) claim other same =
 pub level_of-each : (cap count : ℕ) (claim other : ℕ → Claim) → ((number : ℕ) → number < count → claim number ≡ other number)
     → level_of cap (map claim (range_with_len 0 count)) ≡ level_of cap (map other (range_with_len 0 count))
 level_of-each cap count claim other same = ap (level_of cap) (map-range_same 0 count claim other (λ number below. same number (omega arith)))
+
+-- the level is at most the cap
+pub level_of-le : (cap : ℕ) (claims : List Claim) → level_of cap claims ≤ cap
+unfolding level_of
+level_of-le cap claims = greatest_up_to-le cap (λ k. leb (sum_by (share_at k) claims) cap)
+
+-- the shares at the level fit under the cap
+pub level_of-within : (cap : ℕ) (claims : List Claim) → sum_by (share_at 0) claims ≤ cap → sum_by (share_at (level_of cap claims)) claims ≤ cap
+level_of-within cap claims first =
+    let most = level_of cap claims in
+    leb-true (sum_by (share_at most) claims) cap (level_of-reached cap most claims first (level_of-le cap claims) ∙ le-leb most most (omega arith))
+
+-- those a milliwatt above it don't
+pub level_of-tight : (cap : ℕ) (claims : List Claim) → sum_by (share_at 0) claims ≤ cap → level_of cap claims < cap
+    → cap < sum_by (share_at (level_of cap claims + 1)) claims
+level_of-tight cap claims first below =
+    let most = level_of cap claims in
+    leb-false (sum_by (share_at (most + 1)) claims) cap (level_of-reached cap (most + 1) claims first (omega arith) ∙ lt-leb (most + 1) most (omega arith))

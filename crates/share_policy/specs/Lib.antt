@@ -1,3 +1,4 @@
 pub mod Shares
 pub mod Claims
 pub mod Fairness
+pub mod LevelRange

@@ -7,11 +7,12 @@
 
 mod claim;
 mod laws;
+mod level_range;
 mod shares;
 
 pub use claim::{Claim, Policy};
 pub use laws::level_depends_on_claims_alone;
-pub use shares::{level, reaches, target};
+pub use shares::{level, reaches, target, total_at};
 
 #[cfg(test)]
 mod tests;

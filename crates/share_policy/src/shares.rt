@@ -2,12 +2,21 @@
 ghost use Rattle.std.specs.Prelude.{◌≡◌, ◌+◌, ◌<◌, ◌≤◌, ◌^◌, nat_le, sum_by, count_by};
 ghost use Rattle.share_policy.specs.Shares.{share_at, rises, level_of, target_of};
 ghost use Rattle.share_policy.specs.Claims.{IsFeasible};
+ghost use Rattle.share_policy.specs.LevelRange.{Has};
 ghost use Rattle.share_policy.specs.Fairness.{IsMaxMinFair};
 
 use crate::claim::{Claim, Policy};
+use crate::level_range::LevelRange;
+
+/// How many guesses come before the halving: mostly fewer find the level.
+const GUESSES: usize = 8;
+
+/// How often a range of levels can be halved until one is left, since a level has 64 bits.
+const HALVINGS: usize = 64;
 
 /// The level of the fair shares: the greatest from 0 to the cap at which the targets of all claims sum to at most the
-/// cap. Both are in mW.
+/// cap. Both are in mW. It goes through the claims at most 80 times, whatever they are: two times for each of 8 guesses,
+/// and once for each of 64 halvings.
 pub fn level(cap: u64, claims: &[Claim]) -> u64
     requires { IsFeasible cap claims.now }
     ensures level { result ≡ level_of cap claims.now }
@@ -18,20 +27,48 @@ pub fn level(cap: u64, claims: &[Claim]) -> u64
     ensures tight { result < cap → cap < sum_by (target_of Policy.Fair (result + 1)) claims.now }
     ensures high { result ≤ cap }
 {
-    let mut low = 0;
-    let mut high = cap;
+    by_halves(by_guesses(cap, claims), cap, claims)
+}
+
+/// A range that has the level of the fair shares, and mostly nothing else.
+fn by_guesses(cap: u64, claims: &[Claim]) -> LevelRange
+    requires { IsFeasible cap claims.now }
+    ensures has { Has result (level_of cap claims.now) }
+    ensures high { result.highest ≤ cap }
+{
+    let mut range = LevelRange {
+        lowest: 0,
+        highest: cap,
+    };
     let mut guess = cap / (claims.len() as u64).max(1);
-    while low < high {
-        let middle = between(low, high, guess);
-        let total = total_at(middle, claims);
-        guess = straight(cap, claims, middle, total);
-        if total <= cap {
-            low = middle;
-        } else {
-            high = middle - 1;
+    for _guess in 0..GUESSES {
+        if range.lowest == range.highest {
+            return range;
         }
+        let level = range.nearest(guess);
+        let total = total_at(level, claims);
+        guess = straight(cap, claims, level, total);
+        range = range.narrowed(level, total <= cap);
     }
-    low
+    range
+}
+
+/// The level of the fair shares, which a range has. Each round halves what is left.
+fn by_halves(range: LevelRange, cap: u64, claims: &[Claim]) -> u64
+    requires feasible { IsFeasible cap claims.now }
+    requires has { Has range (level_of cap claims.now) }
+    requires high { range.highest ≤ cap }
+    ensures { result ≡ level_of cap claims.now }
+{
+    let mut range = range;
+    for _round in 0..HALVINGS {
+        if range.lowest == range.highest {
+            return range.lowest;
+        }
+        let level = range.middle();
+        range = range.narrowed(level, reaches(cap, claims, level));
+    }
+    range.lowest
 }
 
 /// Whether the level of the fair shares is at least this one, both in mW. It goes through the claims once.
@@ -40,15 +77,6 @@ pub fn reaches(cap: u64, claims: &[Claim], level: u64) -> bool
     ensures { result ≡ nat_le level (level_of cap claims.now) }
 {
     level <= cap && total_at(level, claims) <= cap
-}
-
-/// The number above the first and up to the second that is nearest to a guess.
-fn between(low: u64, high: u64, guess: u64) -> u64
-    requires { low < high }
-    ensures above { low < result }
-    ensures within { result ≤ high }
-{
-    guess.max(low + 1).min(high)
 }
 
 /// Where the targets would sum to the cap if from this level on, at which they sum to this total, just the claims
@@ -92,8 +120,8 @@ pub fn target(policy: Policy, level: u64, claim: &Claim) -> u64
     }
 }
 
-/// What the fair targets of all claims sum to at a level, in mW.
-fn total_at(level: u64, claims: &[Claim]) -> u64
+/// What the fair targets of all claims sum to at a level, both in mW.
+pub fn total_at(level: u64, claims: &[Claim]) -> u64
     requires { sum_by (share_at level) claims.now < 2 ^ 64 }
     ensures { result ≡ sum_by (share_at level) claims.now }
 {

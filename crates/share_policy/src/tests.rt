@@ -59,3 +59,36 @@ fn sixty_four_claims_at_the_edge(rt: HostRuntime) {
     assert_eq!(rt; level(32_000_000_000_000, &claims), 500_000_000_000);
     assert_eq!(rt; level(63_999_999_999_999, &claims), 999_999_999_999);
 }
+
+#[test]
+fn levels_that_guesses_along_the_slope_creep_up_to(rt: HostRuntime) {
+    // Of 1, 4 and 4 MW with floors of 3 MW only the first rises at the level, so it gets all that is left.
+    let floors = [
+        claim(200_000_000, 1_000_000_000, 1_000_000_000),
+        claim(800_000_000, 4_000_000_000, 4_000_000_000),
+        claim(2_000_000_000, 4_000_000_000, 4_000_000_000),
+    ];
+    assert_eq!(rt; level(3_033_206_657, &floors), 233_206_657);
+
+    // 10 * 850 kW and 2 * 10 kW: nine of the ten rise from 800 to 900 kW alone.
+    let free = claim(0, 4_000_000_000, 4_000_000_000);
+    let steep = claim(800_000_000, 900_000_000, 4_000_000_000);
+    let small = claim(0, 10_000_000, 4_000_000_000);
+    let twelve = [
+        free, steep, steep, steep, steep, steep, steep, steep, steep, steep, small, small,
+    ];
+    assert_eq!(rt; level(8_520_000_000, &twelve), 850_000_000);
+
+    // 31 * 250 MW and 33 * 1 MW: thirty of the 31 rise from 200 to 300 MW alone.
+    let free = claim(0, 1_000_000_000_000, 1_000_000_000_000);
+    let steep = claim(200_000_000_000, 300_000_000_000, 1_000_000_000_000);
+    let small = claim(0, 1_000_000_000, 1_000_000_000_000);
+    let many = [
+        free, steep, steep, steep, steep, steep, steep, steep, steep, steep, steep, steep, steep,
+        steep, steep, steep, steep, steep, steep, steep, steep, steep, steep, steep, steep, steep,
+        steep, steep, steep, steep, steep, small, small, small, small, small, small, small, small,
+        small, small, small, small, small, small, small, small, small, small, small, small, small,
+        small, small, small, small, small, small, small, small, small, small, small, small,
+    ];
+    assert_eq!(rt; level(7_783_000_000_000, &many), 250_000_000_000);
+}

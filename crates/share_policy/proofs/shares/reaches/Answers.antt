@@ -1,4 +1,4 @@
-use Rattle.std.proofs.Common.{◌≡◌, sym, arith}
+use Rattle.std.proofs.Common.{arith}
 use Rattle.std.proofs.lemmas.Bool.{lt-leb}
 use Rattle.share_policy.proofs.Totals.{shares_small, shares_at_zero}
 use Rattle.share_policy.proofs.Levels.{level_of-reached, level_of-beyond}
