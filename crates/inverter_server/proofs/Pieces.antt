@@ -6,6 +6,7 @@ use Rattle.std.proofs.lemmas.List.{length-append, length-drop, take_all}
 use Rattle.world_traits.specs.Causes.{Rose}
 use Rattle.world_traits.specs.Links.{Links, IsCutShort, with_bytes}
 use Rattle.world_traits.proofs.Links.{no_bytes, bytes_bytes}
+use Rattle.modbus_pdu.specs.declared.pdu.Request.{Request}
 use Rattle.mbap_frames.specs.declared.frame.Frame.{Frame}
 use Rattle.mbap_frames.specs.declared.frame.FrameFault.{FrameFault}
 use Rattle.mbap_frames.specs.declared.frames.Got.{Got}
@@ -78,34 +79,41 @@ no_progress may_give state stream = record {
   faults = refl;
 }
 
+-- a frame, and what was answered to it
+abbrev pub answered_so : (asked : Frame) → Request → (at : ℕ) → (answer : Frame) → Answered
+answered_so asked request at answer = record { asked = asked; request = request; at = at; answer = answer }
+
 -- one frame more was answered, and its answer sent
-pub more_progress : (may_give : ℕ → Bool) (old mid new : State) (stream kept rest after : List ℕ) (used : ℕ) (frame : Frame) (answers : List Answered)
+pub one_more : (may_give : ℕ → Bool) (old mid new : State) (stream kept rest after : List ℕ) (used : ℕ) (frame : Frame) (answers : List Answered)
+    → IsProgress may_give old mid stream (kept ++ rest) answers → IsFedOne kept rest after used frame
+    → new.bank.number ≡ mid.bank.number → (handled : HandlesFrame may_give frame mid new course.GoesOn)
+    → IsProgress may_give old new stream (after ++ drop used rest) (answers ++ answered_so frame handled.2.0 handled.0 handled.1 ∷ [])
+one_more may_give old mid new stream kept rest after used frame answers so_far fed number handled =
+    let by = handled.2 in
+    let one : List Answered = answered_so frame by.0 handled.0 handled.1 ∷ [] in record {
+      replies = AreAnswers-append old.bank answers one so_far.replies (subst (λ (b : BankRecord). AreAnswers b one) so_far.bank (by.1, tt));
+      bank = by.2 ∙ ap (λ (b : BankRecord). bank_after_all b one) so_far.bank ∙ sym (bank_after_all-append old.bank answers one);
+      number = number ∙ so_far.number;
+      moments = all-append (λ (a : Answered). IsTrue (may_give a.at)) answers one so_far.moments (handled.3, tt);
+      frames = all-append (λ (a : Answered). IsFrame a.asked) answers one so_far.frames (fed.is_frame, tt);
+      whole = so_far.whole ∙ ap (λ (t : List ℕ). asked_bytes answers ++ t) fed.whole
+          ∙ ap (λ (t : List ℕ). asked_bytes answers ++ (t ++ drop used rest)) (sym (append-nil (frame_spelling frame)))
+          ∙ sym (append_assoc (asked_bytes answers) (asked_bytes one) (drop used rest))
+          ∙ ap (λ (t : List ℕ). t ++ drop used rest) (sym (asked_bytes-append answers one))
+          ∙ ap (λ (t : List ℕ). asked_bytes (answers ++ one) ++ (t ++ drop used rest)) (sym fed.none_kept);
+      links = handled.4 ∙ ap (λ (l : Option Links). option_map (with_bytes (frame_spelling handled.1)) l) so_far.links
+          ∙ bytes_bytes (answer_bytes answers) (frame_spelling handled.1) old.links
+          ∙ ap (λ (t : List ℕ). option_map (with_bytes (answer_bytes answers ++ t)) old.links) (sym (append-nil (frame_spelling handled.1)))
+          ∙ ap (λ (t : List ℕ). option_map (with_bytes t) old.links) (sym (answer_bytes-append answers one));
+      faults = handled.5 ∙ so_far.faults;
+    }
+
+more_progress : (may_give : ℕ → Bool) (old mid new : State) (stream kept rest after : List ℕ) (used : ℕ) (frame : Frame) (answers : List Answered)
     → IsProgress may_give old mid stream (kept ++ rest) answers → IsFedOne kept rest after used frame
     → new.bank.number ≡ mid.bank.number → HandlesFrame may_give frame mid new course.GoesOn
     → (all : List Answered) × IsProgress may_give old new stream (after ++ drop used rest) all
 more_progress may_give old mid new stream kept rest after used frame answers so_far fed number handled =
-    let by = handled.2 in
-    let answered : Answered = record { asked = frame; request = by.0; at = handled.0; answer = handled.1 } in
-    let one : List Answered = answered ∷ [] in (
-      answers ++ one,
-      record {
-        replies = AreAnswers-append old.bank answers one so_far.replies (subst (λ (b : BankRecord). AreAnswers b one) so_far.bank (by.1, tt));
-        bank = by.2 ∙ ap (λ (b : BankRecord). bank_after_all b one) so_far.bank ∙ sym (bank_after_all-append old.bank answers one);
-        number = number ∙ so_far.number;
-        moments = all-append (λ (a : Answered). IsTrue (may_give a.at)) answers one so_far.moments (handled.3, tt);
-        frames = all-append (λ (a : Answered). IsFrame a.asked) answers one so_far.frames (fed.is_frame, tt);
-        whole = so_far.whole ∙ ap (λ (t : List ℕ). asked_bytes answers ++ t) fed.whole
-            ∙ ap (λ (t : List ℕ). asked_bytes answers ++ (t ++ drop used rest)) (sym (append-nil (frame_spelling frame)))
-            ∙ sym (append_assoc (asked_bytes answers) (asked_bytes one) (drop used rest))
-            ∙ ap (λ (t : List ℕ). t ++ drop used rest) (sym (asked_bytes-append answers one))
-            ∙ ap (λ (t : List ℕ). asked_bytes (answers ++ one) ++ (t ++ drop used rest)) (sym fed.none_kept);
-        links = handled.4 ∙ ap (λ (l : Option Links). option_map (with_bytes (frame_spelling handled.1)) l) so_far.links
-            ∙ bytes_bytes (answer_bytes answers) (frame_spelling handled.1) old.links
-            ∙ ap (λ (t : List ℕ). option_map (with_bytes (answer_bytes answers ++ t)) old.links) (sym (append-nil (frame_spelling handled.1)))
-            ∙ ap (λ (t : List ℕ). option_map (with_bytes t) old.links) (sym (answer_bytes-append answers one));
-        faults = handled.5 ∙ so_far.faults;
-      },
-    )
+    (_, one_more may_give old mid new stream kept rest after used frame answers so_far fed number handled)
 
 none_rose : (before now : ℕ) → now ≡ before → RoseBy 0 before now
 none_rose before now same = omega (arith, same)

@@ -2,6 +2,7 @@ ghost use Rattle.std.specs.Prelude.{◌≡◌, ◌<◌, ◌≤◌, ◌++◌, ◌
 ghost use Rattle.plant_simulation.specs.World.{fresh};
 ghost use Rattle.plant_simulation.specs.Inverter as rule;
 
+use limiter_num::NoMemory;
 use plant_book::{Read, Reply, Write};
 use std::alloc::{AllocError, Global};
 use std::marker::Model;
@@ -121,15 +122,14 @@ impl Inverter {
 
     /// The request that a reply grants joins the line.
     #[tactic(auto, unfolding(crate::specs::Inverter::queued))]
-    pub fn queue(&mut self, reply: &Reply) -> Result<(), AllocError>
+    pub fn queue(&mut self, reply: &Reply) -> Result<(), NoMemory>
         ensures { OnOk result (self.new ≡ rule.queued reply.now self.old) }
     {
         match *reply {
-            Reply::Granted(write) => self.line.push(Request::Write(write))?,
-            Reply::ReadAs(read) => self.line.push(Request::Read(read))?,
-            _ => {}
+            Reply::Granted(write) => self.line.push(Request::Write(write)).map_err(|_| NoMemory),
+            Reply::ReadAs(read) => self.line.push(Request::Read(read)).map_err(|_| NoMemory),
+            _ => Ok(()),
         }
-        Ok(())
     }
 
     /// Holds a limit until it reverts at a moment in ms.
@@ -161,7 +161,7 @@ impl Inverter {
 
     /// Empties the line. Its writes are old ones of this life.
     #[tactic(auto, unfolding(crate::specs::Inverter::emptied))]
-    pub fn empty(&mut self, life: u32) -> Result<(), AllocError>
+    pub fn empty(&mut self, life: u32) -> Result<(), NoMemory>
         ensures { OnOk result (self.new ≡ rule.emptied life self.old) }
     {
         add_writes(&mut self.strays, life, &self.line)?;
@@ -178,15 +178,15 @@ impl Inverter {
 
     /// Takes out the old write at a place, and the earlier ones of its link and life.
     #[tactic(auto, unfolding(crate::specs::Inverter::without_old))]
-    pub fn take_old(&mut self, place: usize) -> Result<OldWrite, AllocError>
+    pub fn take_old(&mut self, place: usize) -> Result<OldWrite, NoMemory>
         requires { place < length self.old.strays }
         ensures chosen { IfOk result (λ chosen. slice_get self.old.strays place ≡ Some chosen) }
         ensures left { IfOk result (λ chosen. self.new ≡ rule.without_old place chosen self.old) }
     {
         let chosen = self.strays[place];
         let (sooner, later) = self.strays.split_at(place + 1);
-        let mut left = others(*self.strays.allocator(), sooner, chosen)?;
-        left.extend_from_slice(later)?;
+        let mut left = others(*self.strays.allocator(), sooner, chosen).map_err(|_| NoMemory)?;
+        left.extend_from_slice(later).map_err(|_| NoMemory)?;
         self.strays = left;
         Ok(chosen)
     }
@@ -207,8 +207,7 @@ fn drop_late_writes(strays: &mut Vec<OldWrite>, now: u64)
 }
 
 /// Adds the writes of a line as old ones of a life.
-
-fn add_writes(strays: &mut Vec<OldWrite>, life: u32, line: &[Request]) -> Result<(), AllocError>
+fn add_writes(strays: &mut Vec<OldWrite>, life: u32, line: &[Request]) -> Result<(), NoMemory>
     ensures { OnOk result (strays.new.items ≡ strays.old.items ++ rule.old_writes life line.now) }
 {
     for request in line {
@@ -218,14 +217,14 @@ fn add_writes(strays: &mut Vec<OldWrite>, life: u32, line: &[Request]) -> Result
 }
 
 /// Adds a request as an old one of a life, if it is a write.
-fn add_write(strays: &mut Vec<OldWrite>, life: u32, request: &Request) -> Result<(), AllocError>
+fn add_write(strays: &mut Vec<OldWrite>, life: u32, request: &Request) -> Result<(), NoMemory>
     ensures { OnOk result
         (strays.new.items ≡ strays.old.items ++ rule.old_writes life (request.now ∷ [])) }
 {
-    if let Request::Write(write) = *request {
-        strays.push(OldWrite { life, write })?;
+    match *request {
+        Request::Write(write) => strays.push(OldWrite { life, write }).map_err(|_| NoMemory),
+        Request::Read(_) => Ok(()),
     }
-    Ok(())
 }
 
 /// The writes that are not of the link and life of one.

@@ -1,4 +1,6 @@
-ghost use Rattle.std.specs.Prelude.{◌≤◌, ℕ};
+ghost use Rattle.std.specs.Prelude.{◌≡◌, ◌+◌, ◌≤◌, ℕ};
+ghost use Rattle.limiter_num.specs.Timers.{tmin, tmax, last_act};
+ghost use Rattle.plant_simulation.specs.Site.{rules, unit};
 ghost use Rattle.plant_simulation.specs.Summary.{plant_after, peak_after};
 ghost use Rattle.plant_simulation.specs.Peak.{IsPeak};
 ghost use Rattle.plant_simulation.specs.Devices.{ended_after, AreDevices};
@@ -15,4 +17,13 @@ pub fn peaks_are_greatest()
 pub fn inverters_follow_the_device()
     ensures { (seed count steps : ℕ) → 1 ≤ count → count ≤ 64 → steps ≤ 1000000
         → AreDevices count (ended_after seed count steps) (plant_after seed count steps) }
+{}
+
+/// The numbers by which an inverter is simulated are those of the site: how long after its grant a write may act, how
+/// long after an act its revert comes, and the floor.
+pub fn numbers_are_those_of_the_site()
+    ensures act { (at : ℕ) → last_act rules at ≡ at + 5000 }
+    ensures shortest { tmin rules ≡ 58300 }
+    ensures longest { tmax rules ≡ 61700 }
+    ensures floor { unit.floor ≡ 100 }
 {}

@@ -10,7 +10,7 @@ mod text;
 mod words;
 
 pub use inverter::{OldWrite, Request};
-pub use laws::{inverters_follow_the_device, peaks_are_greatest};
+pub use laws::{inverters_follow_the_device, numbers_are_those_of_the_site, peaks_are_greatest};
 pub use summary::{Summary, simulate};
 pub use text::summary_text;
 

@@ -1,4 +1,5 @@
 ghost use Rattle.std.specs.Prelude.{◌≡◌, ◌≤◌, IfOk};
+ghost use Rattle.limiter_num.specs.Timers as timers;
 ghost use Rattle.plant_simulation.specs.Site as rule;
 
 use limiter_num::{NoMemory, Rating, Rules};
@@ -21,6 +22,24 @@ fn rules() -> Rules
         per_mille: 20,
         slack: 500,
     }
+}
+
+/// The shortest time from an act to its revert, in ms.
+#[tactic(auto, unfolding(limiter_num::specs::Timers::tmin))]
+pub fn tmin() -> u64
+    ensures of_the_rules { result ≡ timers.tmin rule.rules }
+    ensures number { result ≡ 58300 }
+{
+    rules().tmin()
+}
+
+/// The longest time from an act to its revert, in ms.
+#[tactic(auto, unfolding(limiter_num::specs::Timers::tmax))]
+pub fn tmax() -> u64
+    ensures of_the_rules { result ≡ timers.tmax rule.rules }
+    ensures number { result ≡ 61700 }
+{
+    rules().tmax()
 }
 
 /// The rating of each inverter.

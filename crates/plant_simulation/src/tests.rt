@@ -69,3 +69,14 @@ fn the_silence_outlasts_thirty_three_steps(rt: HostRuntime) {
     holds_its_floors(&rt, rt.alloc(), u64::MAX, 1, 33);
     holds_its_floors(&rt, rt.alloc(), 3, 64, 33);
 }
+
+#[test]
+fn a_full_plant_runs_for_long(rt: HostRuntime) -> Result<(), Fail> {
+    let summary = simulate(rt.alloc(), 7, 64, 100_000).ok().ok_or("memory")?;
+    assert_eq!(rt; summary.cap, 192_000_000);
+    // A step restarts the controller once in 1,024 times.
+    assert!(rt; summary.lives > 60 && summary.lives < 140);
+    assert!(rt; summary.freed <= summary.granted && summary.granted > 0);
+    assert!(rt; summary.peak > 38_400_000 && summary.peak <= summary.cap);
+    Ok(())
+}

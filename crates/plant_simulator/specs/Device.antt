@@ -1,15 +1,16 @@
 -- What contracts see of a dialer whose links reach a simulated inverter, and its state after each call.
-use Rattle.std.specs.Prelude.{◌≡◌, ℕ, ◌⊎◌, Bool, IsTrue, List, [], ◌∷◌, ◌++◌, drop, take}
+use Rattle.std.specs.Prelude.{◌≡◌, ℕ, ◌⊎◌, Bool, IsTrue, List, [], ◌∷◌, ◌++◌, drop, max, take}
 use Rattle.std.specs.List.{AllByRecursion}
 use Rattle.world_traits.specs.Causes.{one_more}
 use Rattle.world_traits.specs.Fakes.{ScheduleState, FailsNext, new_schedule, after_success, after_failure}
 use Rattle.world_traits.specs.Links.{Answer, Quiet, Closed, Links, IsDown, no_links, after_hang_up, with_bytes, with_failure, with_link, with_receipt}
 use Rattle.world_traits.specs.Plays.{some_bytes}
-use Rattle.mbap_frames.specs.Frame.{IsFrame}
-use Rattle.mbap_frames.specs.Stream.{IsUnfinished}
+use Rattle.mbap_frames.specs.declared.frame.Frame.{Frame}
+use Rattle.mbap_frames.specs.declared.frame.FrameFault.{FrameFault}
+use Rattle.mbap_frames.specs.Frame.{Begins, IsFrame}
+use Rattle.mbap_frames.specs.Stream.{HasFault, IsUnfinished}
 use Rattle.inverter_sim.specs.Bank.{BankRecord}
-use Rattle.inverter_server.specs.Answers.{Answered, AreAnswers, asked_bytes, answer_bytes, bank_after_all}
-use Rattle.inverter_server.specs.Serving.{Refused, StandsBehind}
+use Rattle.inverter_server.specs.Answers.{Answered, AreAnswers, IsHungUpOn, asked_bytes, answer_bytes, bank_after_all}
 use Rattle.plant_simulator.specs.declared.hearing.Standing.{Standing}
 use Rattle.plant_simulator.specs.declared.hearing.Standing.TheVariants.{Listens, HungUp, Told}
 
@@ -18,12 +19,13 @@ pub record Waiting : Type 0 where
   pub left : List ℕ
   pub room : ℕ
 
--- The record of the links, the clock and the inverter; on the link that is up what came of a request that isn't whole, the reply
+-- The record of the links, the clock with the greatest of its readings so far, or 0 before the first, and the inverter; on the link that is up what came of a request that isn't whole, the reply
 -- bytes that are left, and how the inverter stands to it; which calls fail, and the count of refusals for memory. Where no link is
 -- up, nothing is left of one.
 pub record DeviceDialerState (K : Type 0) : Type 0 where
   pub links : Links
   pub clock : K
+  pub latest : ℕ
   pub bank : BankRecord
   pub kept : List ℕ
   pub left : List ℕ
@@ -36,6 +38,7 @@ abbrev pub new_dialer : {K : Type 0} → BankRecord → K → List ℕ → Devic
 new_dialer bank clock failing = record {
   links = no_links;
   clock = clock;
+  latest = 0;
   bank = bank;
   kept = [];
   left = [];
@@ -101,6 +104,16 @@ after_good_receive room state = record state {
   schedule = after_success state.schedule;
 }
 
+-- one reading more, of those that a clock may give: the greatest was this before it, and is this behind it
+abbrev pub IsRead : (ℕ → Bool) → (before greatest : ℕ) → Type 0
+IsRead may_give before greatest = (reading : ℕ) × IsTrue (may_give reading) × (greatest ≡ max before reading)
+
+-- Each was answered at the greatest reading so far, with one reading more for each: the greatest was this before, and is this behind.
+abbrev pub AreAtReadings : (ℕ → Bool) → (before : ℕ) → List Answered → (greatest : ℕ) → Type 0
+AreAtReadings may_give before [] greatest = greatest ≡ before
+AreAtReadings may_give before (answered ∷ later) greatest =
+    IsRead may_give before answered.at × AreAtReadings may_give answered.at later greatest
+
 -- The frames at the front of a stream were answered in order, at moments that the clock may give and that never fall.
 pub record AreHeard (may_give : ℕ → Bool) (old new : BankRecord) (stream behind : List ℕ) (answers : List Answered) : Type 0 where
   pub replies : AreAnswers old answers
@@ -109,20 +122,28 @@ pub record AreHeard (may_give : ℕ → Bool) (old new : BankRecord) (stream beh
   pub frames : AllByRecursion (λ answered. IsFrame answered.asked) answers
   pub whole : stream ≡ asked_bytes answers ++ behind
 
+-- A frame or a fault stands there that is hung up on. For a whole frame the clock was read once more, for a fault it wasn't.
+abbrev pub HangsUp : (ℕ → Bool) → (number : ℕ) → (behind : List ℕ) → (before greatest : ℕ) → Type 0
+HangsUp may_give number behind before greatest =
+    ((frame : Frame) × Begins behind frame × IsHungUpOn number frame × IsRead may_give before greatest)
+    ⊎ ((fault : FrameFault) × HasFault behind fault × (greatest ≡ before))
+
 -- What an inverter that listens makes of a stream: it answers each frame, up to the first frame or fault that it hangs up on. Of
 -- the stream it keeps the part of a request behind the frames, and nothing where it has hung up.
-abbrev pub Hears : (ℕ → Bool) → (old new : BankRecord) → (stream kept left after : List ℕ) → Standing → Type 0
-Hears may_give old new stream kept left after Listens =
+abbrev pub Hears : (ℕ → Bool) → (old new : BankRecord) → (before greatest : ℕ) → (stream kept left after : List ℕ) → Standing → Type 0
+Hears may_give old new before greatest stream kept left after Listens =
     (answers : List Answered) × AreHeard may_give old new stream kept answers
-    × IsUnfinished kept × (after ≡ left ++ answer_bytes answers)
-Hears may_give old new stream kept left after HungUp =
+    × AreAtReadings may_give before answers greatest × IsUnfinished kept × (after ≡ left ++ answer_bytes answers)
+Hears may_give old new before greatest stream kept left after HungUp =
     (answers : List Answered) × (behind : List ℕ) × AreHeard may_give old new stream behind answers
-    × StandsBehind old.number Refused behind × (kept ≡ []) × (after ≡ left ++ answer_bytes answers)
-Hears may_give old new stream kept left after Told = ⊥
+    × ((last : ℕ) × AreAtReadings may_give before answers last × HangsUp may_give old.number behind last greatest)
+    × (kept ≡ []) × (after ≡ left ++ answer_bytes answers)
+Hears may_give old new before greatest stream kept left after Told = ⊥
 
 -- the inverter and the link that is up are as they were
 pub record IsUntouched {K : Type 0} (old new : DeviceDialerState K) : Type 0 where
   pub bank : new.bank ≡ old.bank
+  pub latest : new.latest ≡ old.latest
   pub kept : new.kept ≡ old.kept
   pub left : new.left ≡ old.left
   pub standing : new.standing ≡ old.standing
@@ -130,7 +151,7 @@ pub record IsUntouched {K : Type 0} (old new : DeviceDialerState K) : Type 0 whe
 -- what an inverter makes of a piece, by how it stands to the link: behind a hang-up of its own it doesn't look at it
 abbrev pub TakesPiece : {K : Type 0} → (ℕ → Bool) → (piece : List ℕ) → (old new : DeviceDialerState K) → Standing → Type 0
 TakesPiece may_give piece old new Listens =
-    Hears may_give old.bank new.bank (old.kept ++ piece) new.kept old.left new.left new.standing
+    Hears may_give old.bank new.bank old.latest new.latest (old.kept ++ piece) new.kept old.left new.left new.standing
 TakesPiece may_give piece old new HungUp = IsUntouched old new
 TakesPiece may_give piece old new Told = IsUntouched old new
 

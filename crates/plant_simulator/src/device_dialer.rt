@@ -46,6 +46,7 @@ impl<'c, K: Clock> Model for DeviceDialer<'c, K> {
     ghost view = { λ d. record {
       links = d.log;
       clock = d.device.clock;
+      latest = d.device.latest;
       bank = d.device.bank;
       kept = d.frames;
       left = d.replies.left;

@@ -1,4 +1,4 @@
-ghost use Rattle.std.specs.Prelude.{◌≡◌, IfOk};
+ghost use Rattle.std.specs.Prelude.{◌≡◌, IfOk, None};
 
 use super::*;
 use inverter_sim::Bank;
@@ -6,7 +6,7 @@ use limiter_num::{Rating, Rules};
 use plant_book::Unit;
 use std::process::Abort;
 use std::test::Fail;
-use world_traits::{Dialer, Received, RecvFailed, SendFailed, StepClock};
+use world_traits::{DialFailed, Dialer, Received, RecvFailed, SendFailed, StepClock};
 
 /// Frames: a read of the mark, a write of 100 percent, a read-back of the limit, and a read for another unit.
 const FRAMES: [u8; 61] = [
@@ -113,4 +113,83 @@ fn a_write_is_cut_at_each_byte_and_once(rt: HostRuntime) -> Result<(), Fail> {
         play(&rt, &mut dialer, &steps);
     }
     Ok(())
+}
+
+/// The reply to a read-back of the limit, where so many seconds are left.
+fn shown(high: u8, low: u8, left: u8) -> [u8; 25] {
+    [
+        0, 3, 0, 0, 0, 0x13, 1, 3, 16, 0, 1, high, low, 0, 100, 0, 1, 0, 0, 0, 60, 0, 0, 0, left,
+    ]
+}
+
+#[test]
+fn each_request_reads_the_clock_once(rt: HostRuntime) -> Result<(), Fail> {
+    // The write at 20 s is held up to 81.7 s. The read-backs come at 40, 60, 80 and 100 s: 42, 22 and 2 s are left, and then it has
+    // gone back to its floor.
+    let clock = StepClock::new(0, 20_000);
+    let mut dialer = DeviceDialer::new(rt.alloc(), bank(&rt)?, &clock, Vec::new(rt.alloc()));
+    let (write, read_back) = (&FRAMES[12..37], &FRAMES[37..49]);
+    let begin = [
+        Step::Dial,
+        Step::Send(&write[..20], Ok(20)),
+        Step::Send(&write[20..], Ok(5)),
+        Step::Receive(Ok(Received::Bytes(12)), &REPLIES[13..25]),
+    ];
+    play(&rt, &mut dialer, &begin);
+    for reply in [
+        shown(3, 0xE8, 42),
+        shown(3, 0xE8, 22),
+        shown(3, 0xE8, 2),
+        shown(0, 100, 0),
+    ] {
+        let steps = [
+            Step::Send(read_back, Ok(12)),
+            Step::Receive(Ok(Received::Bytes(25)), &reply),
+            Step::Receive(Ok(Received::Quiet), &[]),
+        ];
+        play(&rt, &mut dialer, &steps);
+    }
+    Ok(())
+}
+
+/// A dialer that makes no link, and keeps how long it was to wait.
+#[derive(Debug, Drop)]
+struct Waiting {
+    wait: u32,
+    faults: u64,
+}
+
+impl Dialer for Waiting {
+    ghost links = { λ w. None };
+
+    ghost faults = { λ w. w.faults };
+
+    fn dial(&mut self, _host: &str, _port: u16, wait: u32) -> Result<(), DialFailed> {
+        self.wait = wait;
+        self.faults = self.faults.saturating_add(1);
+        Err(DialFailed)
+    }
+
+    fn send(&mut self, _bytes: &[u8]) -> Result<usize, SendFailed> {
+        self.faults = self.faults.saturating_add(1);
+        Err(SendFailed)
+    }
+
+    fn recv(&mut self, _into: &mut [u8]) -> Result<Received, RecvFailed> {
+        self.faults = self.faults.saturating_add(1);
+        Err(RecvFailed)
+    }
+
+    fn hang_up(&mut self) {}
+}
+
+fn assert_waits(rt: &impl Abort, mut dialer: CutDialer<Waiting>) {
+    assert_eq!(rt; dialer.dial("localhost", 5_020, 2_345), Err(DialFailed));
+    assert_eq!(rt; (dialer.inner().wait, dialer.inner().faults), (2_345, 1));
+}
+
+#[test]
+fn a_dial_below_waits_as_long(rt: HostRuntime) {
+    assert_waits(&rt, CutDialer::new(Waiting { wait: 0, faults: 0 }, None));
+    assert_waits(&rt, CutDialer::new(Waiting { wait: 0, faults: 0 }, Some(1)));
 }

@@ -3,6 +3,7 @@ use Rattle.mbap_frames.specs.Frame.{frame_limit}
 use Rattle.mbap_frames.specs.Stream.{IsUnfinished}
 use Rattle.inverter_server.specs.Answers.{Answered}
 use Rattle.inverter_server.specs.Turns.{IsProgress}
+use Rattle.plant_simulator.specs.Device.{AreAtReadings}
 use Rattle.plant_simulator.proofs.Gathering.{gathered}
 use Rattle.plant_simulator.proofs.hearing.hear.Given as goal
 
@@ -13,7 +14,8 @@ invariant-piece g l = record {
   clock : l.device.clock ≡ l.fn.device.clock;
   room : frame_limit * length l.rest ≤ l.replies.room;
   progress : (answers : List Answered) × IsProgress (g.K.Clock.may_give l.fn.device.clock)
-      (gathered l.fn.device.bank l.fn.replies.left) (gathered l.device.bank l.replies.left) (l.fn.frames ++ l.piece) (l.frames ++ l.rest) answers;
+      (gathered l.fn.device.bank l.fn.replies.left) (gathered l.device.bank l.replies.left) (l.fn.frames ++ l.piece) (l.frames ++ l.rest) answers
+      × AreAtReadings (g.K.Clock.may_give l.fn.device.clock) l.fn.device.latest answers l.device.latest;
 }
 
 abbrev pub decreases-piece : goal.decreases-piece

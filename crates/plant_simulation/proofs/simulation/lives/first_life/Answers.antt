@@ -5,7 +5,7 @@ use Rattle.plant_ledger.specs.declared.opening.OpenFault.TheVariants as faults
 use Rattle.plant_ledger.specs.Opening.{open_fault}
 use Rattle.plant_simulation.specs.Site.{site_of}
 use Rattle.plant_simulation.proofs.Running.{no_fault}
-use Rattle.plant_simulation.proofs.simulation.first_life.Goals as goal
+use Rattle.plant_simulation.proofs.simulation.lives.first_life.Goals as goal
 
 only_memory : (site : SiteRecord) (fault : OpenFault) → open_fault site ≡ None → ((open_fault site ≡ Some fault) ⊎ ((fault ≡ faults.NoMemory) × (open_fault site ≡ None))) → fault ≡ faults.NoMemory
 only_memory site fault none refused =

@@ -2,7 +2,7 @@ use Rattle.std.proofs.Common.{set, ap, sym, ◌∙◌}
 use Rattle.std.proofs.lemmas.List.Edits.{map_over_more}
 use Rattle.plant_simulation.specs.World.{InverterRecord}
 use Rattle.plant_simulation.specs.Inverter as rule
-use Rattle.plant_simulation.proofs.simulation.empty_each.Goals as goal
+use Rattle.plant_simulation.proofs.simulation.lives.empty_each.Goals as goal
 
 pub loop-inverter-preserved : goal.loop-inverter-preserved
 loop-inverter-preserved c =
