@@ -11,7 +11,7 @@ use Rattle.plant_book.specs.Part.{PartRecord, CarryRecord}
 use Rattle.plant_book.specs.Carry.{carry_of}
 use Rattle.plant_ledger.specs.Plant.{with_one}
 use Rattle.ledger_desk.specs.Desk.{GoalsLast, RollsLast, LivesLast}
-use Rattle.ledger_desk.specs.Plain.{PlainRecord, joined, front, first_entries, IsGoalOf, MayTell, begins, ends, WasFull, carry_at, book_between, Ended, WasFullLife, LifeRecord, life_of}
+use Rattle.ledger_desk.specs.Plain.{PlainRecord, joined, front, first_entries, IsGoalOf, MayTell, begins, ends, WasFull, carry_at, book_between, Ended, WasFullLife, life_of}
 
 pub get-append : {X : Type 0} (xs ys : List X) (n : ℕ) (x : X) → slice_get xs n ≡ Some x → slice_get (xs ++ ys) n ≡ Some x
 get-append xs ys n x is =

@@ -1,12 +1,15 @@
 -- What a desk means, and what each of its calls does to that.
-use Rattle.std.specs.Prelude.{◌≡◌, ℕ, ◌≤◌, List, [], ◌∷◌, ◌++◌}
+use Rattle.std.specs.Prelude.{◌≡◌, ◌⊎◌, ℕ, ◌+◌, ◌<◌, ◌≤◌, List, [], ◌∷◌, ◌++◌}
 use Rattle.plant_book.specs.declared.call.Call.{Call}
 use Rattle.plant_book.specs.declared.call.Reply.{Reply}
 use Rattle.plant_book.specs.declared.call.TheConstants.{MOMENT_MAX}
 use Rattle.plant_book.specs.declared.book.Entry.{Entry}
+use Rattle.plant_book.specs.declared.carry.TheConstants.{CALLS_MAX}
 use Rattle.plant_book.specs.Calls.{moment, at_moment}
 use Rattle.plant_book.specs.Part.{PartRecord}
 use Rattle.plant_ledger.specs.declared.plant.Goal.{Goal}
+use Rattle.plant_ledger.specs.declared.rolling.RollFault.{RollFault}
+use Rattle.plant_ledger.specs.declared.rolling.RollFault.TheVariants.{LifeFull, NoMemory}
 use Rattle.ledger_desk.specs.Calls.{IsReplyTo}
 
 -- The entries that were made through a desk, in order; its front, a number that never falls; the count of its
@@ -65,3 +68,13 @@ pub record AddsRoll (old new : DeskState) : Type 0 where
   pub front : old.front ≤ new.front
   pub inverters : new.inverters ≡ old.inverters
   pub rolls : new.rolls ≡ old.rolls ++ new.front ∷ []
+
+-- with one more book of this room a life of so many calls would have more than it may
+abbrev pub IsFullAt : (calls room : ℕ) → Type 0
+IsFullAt calls room = CALLS_MAX < calls + room
+
+-- Why a life of so many calls isn't rolled: it is full and the fault tells these calls, or it isn't full and memory
+-- is short.
+abbrev pub RefusesRoll : (calls room : ℕ) → RollFault → Type 0
+RefusesRoll calls room fault =
+    (IsFullAt calls room × (fault ≡ LifeFull calls)) ⊎ ((¬ IsFullAt calls room) × (fault ≡ NoMemory))

@@ -7,7 +7,7 @@ ghost use Rattle.plant_ledger.specs.declared.rolling.RollFault.{RollFault as Ref
 ghost use Rattle.plant_ledger.specs.Opening.{ticket_for};
 ghost use Rattle.plant_ledger.specs.Release.{back_of};
 ghost use Rattle.ledger_desk.specs.Calls.{IsBack};
-ghost use Rattle.ledger_desk.specs.Desk.{DeskState, EntersNone, Enters, AddsRoll, GoalsLast, RollsLast, LivesLast};
+ghost use Rattle.ledger_desk.specs.Desk.{DeskState, EntersNone, Enters, AddsRoll, GoalsLast, RollsLast, LivesLast, RefusesRoll};
 
 use plant_book::{Book, Call, MOMENT_MAX, Reply};
 use plant_ledger::{BookFull, Goal, Outcome, RollFault, Ticket};
@@ -38,6 +38,9 @@ pub trait Desk {
 
     ghost kept: { Self → Self.Kept };
 
+    /// How many calls each book of the life has room for.
+    ghost room_of: { Self.Kept → ℕ };
+
     /// Enters a call and answers it.
     fn call(&mut self, call: Call) -> Result<Outcome, BookFull>
         requires no_back { ¬ IsBack call }
@@ -48,11 +51,13 @@ pub trait Desk {
         ensures ticket { IfOk result (λ outcome. outcome.ticket ≡ ticket_for outcome.reply) }
         ensures none { OnErr result (EntersNone (state self.old) (state self.new)) }
         ensures full { OnErr result (was_full self.new) }
+        ensures room { IfErr result (λ full. full.calls ≡ room_of (kept self.new)) }
         ensures goals_last { GoalsLast (may_tell self.old) (may_tell self.new) }
         ensures full_lasts { was_full self.old → was_full self.new }
         ensures rolls_last { RollsLast (ended self.old) (ended self.new) }
         ensures lives_last { LivesLast (was_full_life self.old) (was_full_life self.new) }
-        ensures kept { kept self.new ≡ kept self.old };
+        ensures kept { kept self.new ≡ kept self.old }
+        ensures few { (state self.new).inverters ≤ 64 };
 
     /// Gives back a write that was not sent and never will be. The ticket is used up, at a full book too.
     fn release(&mut self, ticket: Ticket, at: u64) -> Result<Reply, BookFull>
@@ -61,11 +66,13 @@ pub trait Desk {
         ensures entered { IfOk result (λ reply. Enters (back_of ticket at) reply (state self.old) (state self.new)) }
         ensures none { OnErr result (EntersNone (state self.old) (state self.new)) }
         ensures full { OnErr result (was_full self.new) }
+        ensures room { IfErr result (λ full. full.calls ≡ room_of (kept self.new)) }
         ensures goals_last { GoalsLast (may_tell self.old) (may_tell self.new) }
         ensures full_lasts { was_full self.old → was_full self.new }
         ensures rolls_last { RollsLast (ended self.old) (ended self.new) }
         ensures lives_last { LivesLast (was_full_life self.old) (was_full_life self.new) }
-        ensures kept { kept self.new ≡ kept self.old };
+        ensures kept { kept self.new ≡ kept self.old }
+        ensures few { (state self.new).inverters ≤ 64 };
 
     /// What the inverter may aim at.
     fn goal(&mut self, inverter: u8) -> Goal
@@ -76,18 +83,23 @@ pub trait Desk {
         ensures full_lasts { was_full self.old → was_full self.new }
         ensures rolls_last { RollsLast (ended self.old) (ended self.new) }
         ensures lives_last { LivesLast (was_full_life self.old) (was_full_life self.new) }
-        ensures kept { kept self.new ≡ kept self.old };
+        ensures kept { kept self.new ≡ kept self.old }
+        ensures few { (state self.new).inverters ≤ 64 };
 
-    /// Ends the book, hands it out, and goes on with an empty one. After a refusal the book is as before.
+    /// Ends the book, hands it out, and goes on with an empty one. After a refusal the book is as before. A life that
+    /// has no room for one more book is refused as full, with its calls, before memory is asked for.
     fn roll(&mut self, alloc: Global) -> Result<Book, RollFault>
         ensures rolled { IfOk result (λ book. AddsRoll (state self.old) (state self.new)) }
         ensures ended { IfOk result (λ book. ended self.new (length (state self.new).rolls) book) }
         ensures none { OnErr result (EntersNone (state self.old) (state self.new)) }
+        ensures refused { IfErr result
+            (λ fault. RefusesRoll (state self.new).front (room_of (kept self.new)) fault) }
         ensures full_life { (calls : ℕ) → IfErr result (λ fault. fault ≡ RollFault.LifeFull calls
             → was_full_life self.new calls) }
         ensures goals_last { GoalsLast (may_tell self.old) (may_tell self.new) }
         ensures full_lasts { was_full self.old → was_full self.new }
         ensures rolls_last { RollsLast (ended self.old) (ended self.new) }
         ensures lives_last { LivesLast (was_full_life self.old) (was_full_life self.new) }
-        ensures kept { kept self.new ≡ kept self.old };
+        ensures kept { kept self.new ≡ kept self.old }
+        ensures few { (state self.new).inverters ≤ 64 };
 }

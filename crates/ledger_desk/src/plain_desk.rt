@@ -1,16 +1,17 @@
 ghost use Rattle.std.specs.Prelude.{◌≡◌, ◌<◌, ◌≤◌, ◌+◌, ◌++◌, [], length, vec_len, vec_capacity, None, IfOk, IfErr, IfSome, OnErr, OnOk};
 ghost use Rattle.plant_book.specs.Calls.{moment, named};
 ghost use Rattle.plant_book.specs.Answered.{IsInRange};
-ghost use Rattle.plant_book.specs.Part.{PartRecord};
+ghost use Rattle.plant_book.specs.Part.{PartRecord, calls_of};
 ghost use Rattle.plant_ledger.specs.declared.plant.Goal.{Goal as Told};
 ghost use Rattle.plant_ledger.specs.Opening.{ticket_for};
+ghost use Rattle.plant_ledger.specs.Plant.{IsFullLife};
 ghost use Rattle.plant_ledger.specs.Release.{back_of};
 ghost use Rattle.ledger_desk.specs.Calls.{IsBack};
-ghost use Rattle.ledger_desk.specs.Desk.{DeskState, EntersNone, Enters, AddsRoll, GoalsLast, RollsLast, LivesLast};
+ghost use Rattle.ledger_desk.specs.Desk.{DeskState, EntersNone, Enters, AddsRoll, GoalsLast, RollsLast, LivesLast, RefusesRoll};
 ghost use Rattle.ledger_desk.specs.Plain.{state_of, MayTell, WasFull, Ended, WasFullLife, LifeRecord, life_of, IsKeptDesk};
 
 use crate::desk::Desk;
-use plant_book::{Book, Call, Entry, Reply};
+use plant_book::{Book, CALLS_MAX, Call, Entry, Reply};
 use plant_ledger::{BookFull, Goal, Outcome, Plant, RollFault, Ticket};
 use std::alloc::Global;
 use std::marker::Model;
@@ -83,6 +84,8 @@ impl Desk for PlainDesk {
 
     ghost kept = { λ d. life_of d };
 
+    ghost room_of = { λ life. life.site.room };
+
     fn call(&mut self, call: Call) -> Result<Outcome, BookFull> {
         self.plant.apply(call)
     }
@@ -99,6 +102,7 @@ impl Desk for PlainDesk {
     }
 
     fn roll(&mut self, alloc: Global) -> Result<Book, RollFault> {
+        check_life(&self.plant)?;
         let calls = self.plant.calls() as usize;
         if self.before.reserve(calls).is_err() || self.rolls.reserve(1).is_err() {
             return Err(RollFault::NoMemory);
@@ -108,6 +112,30 @@ impl Desk for PlainDesk {
         self.rolls.push_reserved(count(&self.before));
         Ok(ended)
     }
+}
+
+/// Refuses a life that has no room for one more book.
+fn check_life(plant: &Plant) -> Result<(), RollFault>
+    ensures unfilled { OnOk result (¬ IsFullLife plant.now) }
+    ensures full { IfErr result (λ fault. IsFullLife plant.now
+        × (fault ≡ RollFault.LifeFull (calls_of plant.now))) }
+{
+    let calls = life_calls(plant);
+    if calls > CALLS_MAX - plant.site().room {
+        return Err(RollFault::LifeFull(calls));
+    }
+    Ok(())
+}
+
+/// How many calls the life has, up to and with this book.
+fn life_calls(plant: &Plant) -> u32
+    ensures { result ≡ calls_of plant.now }
+{
+    let before = match plant.carry() {
+        Some(carry) => carry.calls,
+        None => 0,
+    };
+    before + plant.calls()
 }
 
 /// Adds the entries of a book to others that have room for them.

@@ -1,5 +1,5 @@
 -- What a call through a pass does to what the desk of that pass means.
-use Rattle.std.proofs.Common.{◌≡◌, ℕ, ◌+◌, ◌<◌, ◌≤◌, max, List, [], ◌∷◌, ◌++◌, length, map, Result, Ok, Err, sym, ap, subst, ◌∙◌, ⊎_elim, append_assoc, length-append, length-drop, arith}
+use Rattle.std.proofs.Common.{◌≡◌, ℕ, ◌+◌, ◌<◌, ◌≤◌, max, List, [], ◌∷◌, ◌++◌, length, map, Result, Ok, Err, sym, ap, subst, ◌∙◌, inl, inr, ⊎_elim, append_assoc, length-append, length-drop, arith}
 use Rattle.std.specs.Prelude.{All, IfOk, IfErr, OnErr}
 use Rattle.std.proofs.lemmas.List.{map-append, length-map, take_all, length_push}
 use Rattle.std.proofs.lemmas.List.Elements.{All-take, All-weaker, Contains-push}
@@ -8,7 +8,7 @@ use Rattle.plant_book.specs.declared.call.Call.{Call}
 use Rattle.plant_book.specs.declared.call.Call.TheVariants as calls
 use Rattle.plant_book.specs.declared.call.TheConstants.{MOMENT_MAX}
 use Rattle.plant_book.specs.declared.call.Reply.{Reply}
-use Rattle.plant_book.specs.Site.{inverters}
+use Rattle.plant_book.specs.Site.{SiteRecord, inverters}
 use Rattle.plant_book.specs.Book.{BookRecord}
 use Rattle.plant_book.specs.Calls.{moment, at_moment}
 use Rattle.plant_book.specs.Calls as parts
@@ -30,11 +30,11 @@ use Rattle.ledger_desk.specs.Plain.{IsGoalOf}
 use Rattle.ledger_desk.proofs.Replies.{replies_fit}
 use Rattle.plant_desk.specs.declared.deed.Deed.{Deed}
 use Rattle.plant_desk.specs.declared.deed.Deed.TheVariants as deeds
-use Rattle.plant_desk.specs.Deeds.{life_of, joined, base, Placed, rolls_by}
-use Rattle.plant_desk.specs.Passes.{PassRecord, seen_book, first_place, entries, rolls, Looks, FindsFull, Enters, RollsOver, IsFull, RefusesRoll}
+use Rattle.plant_desk.specs.Deeds.{first_life, life_of, joined, base, Placed, rolls_by}
+use Rattle.plant_desk.specs.Passes.{PassRecord, seen_book, first_place, entries, rolls, Finds, Looks, FindsFull, Enters, RollsOver, IsFull, RefusesRoll}
 use Rattle.plant_desk.specs.DeskOf.{front, state_of, MayTell, WasFull, Ended, WasFullLife}
 use Rattle.plant_desk.proofs.Lives.{front-rolled}
-use Rattle.plant_desk.proofs.Passes.{calls_in, front-calls_in, rolls_by-same}
+use Rattle.plant_desk.proofs.Passes.{calls_in, front-calls_in, rolls_by-same, site-after}
 use Rattle.plant_desk.proofs.Later.{IsLater, front_lasts, places-below}
 
 abbrev entry_at : Placed → Entry
@@ -42,6 +42,16 @@ entry_at placed = placed.entry
 
 site_later : (old new : PassRecord) → IsLater old new → inverters new.desk.book.site ≡ inverters old.desk.book.site
 site_later old new later = ap (λ (p : PassRecord). inverters p.desk.book.site) later.seen
+
+-- the site of an answered life has few inverters
+few_later : (old new : PassRecord) (between : List Deed) → Finds old between → IsLater old new → inverters new.desk.book.site ≤ 64
+few_later old new between finds later =
+    let of_site = site-after (first_life old.desk.book) (old.seen ++ between) in
+    let few : inverters old.desk.book.site ≤ 64 = subst (λ (site : SiteRecord). inverters site ≤ 64) of_site finds.answered.book.openable.few in
+    subst (λ (n : ℕ). n ≤ 64) (sym (site_later old new later)) few
+
+pub looks_few : (old new : PassRecord) → Looks old new → inverters new.desk.book.site ≤ 64
+looks_few old new looks = few_later old new looks.between looks.finds (record { more = looks.between; seen = looks.seen })
 
 -- a look means nothing
 pub looks_later : (old new : PassRecord) → Looks old new → IsLater old new
@@ -82,6 +92,10 @@ finds_full old count new full =
       there = Contains-push life.ended life.last;
       full = omega (arith, here, full.room, ap (λ (b : PartRecord). b.site.room) same, length-append (entries_of life.ended) life.last.entries);
     }
+
+-- its calls are its room
+finds_room : (old : PassRecord) (count : ℕ) (new : PassRecord) → FindsFull old count new → count ≡ new.desk.book.site.room
+finds_room old count new full = full.room ∙ sym (ap (λ (p : PassRecord). p.desk.book.site.room) full.looks.seen)
 
 -- a call that was entered
 module _ (old : PassRecord) (call : Call) (reply : Reply) (new : PassRecord) (is : Enters old call reply new) where
@@ -127,6 +141,8 @@ module _ {Answer : Type 0} (reply : Answer → Reply) (call : Call) (result : Re
     pub entered : IfOk result (λ answer. means.Enters call (reply answer) (state_of old) (state_of new))
     pub none : OnErr result (EntersNone (state_of old) (state_of new))
     pub full : OnErr result (WasFull new)
+    pub room : IfErr result (λ full. full.calls ≡ new.desk.book.site.room)
+    pub few : inverters new.desk.book.site ≤ 64
     pub later : IsLater old new
 
 pub called : {Answer : Type 0} (reply : Answer → Reply) (call : Call) (result : Result Answer BookFull) (new old : PassRecord) → moment call ≤ MOMENT_MAX
@@ -135,12 +151,16 @@ called reply call (Ok answer) new old high is = record {
   entered = enters_one old call (reply answer) new is.entered high;
   none = tt;
   full = tt;
+  room = tt;
+  few = few_later old new is.entered.between is.entered.finds (enters_later old call (reply answer) new is.entered);
   later = enters_later old call (reply answer) new is.entered;
 }
 called reply call (Err fault) new old high is = record {
   entered = tt;
   none = looks_none old new is.full.looks;
   full = finds_full old fault.calls new is.full;
+  room = finds_room old fault.calls new is.full;
+  few = looks_few old new is.full.looks;
   later = looks_later old new is.full.looks;
 }
 
@@ -202,6 +222,15 @@ full_life old new calls fault refused named = ⊎_elim
     none : {m : ℕ} → LifeFull m ≡ NoMemory → ⊥
     none e = cc
 
+-- what a roll that was refused found
+refuses : (old new : PassRecord) (fault : RollFault) → RefusesRoll old fault new → means.RefusesRoll (front new) new.desk.book.site.room fault
+refuses old new fault refused =
+    let Cause : PartRecord → Type 0 = λ b. means.RefusesRoll (length (joined b new.seen).entries) b.site.room fault in
+    subst Cause (sym (ap (λ (p : PassRecord). p.desk.book) refused.looks.seen)) (⊎_elim
+    (λ (full : (fault ≡ LifeFull (length (joined old.desk.book new.seen).entries)) × IsFull old.desk.book new.seen). inl (full.1, full.0))
+    (λ (short : (fault ≡ NoMemory) × (¬ IsFull old.desk.book new.seen)). inr (short.1, short.0))
+    refused.cause)
+
 -- What a roll leaves, by what the shared desk answered.
 module _ (result : Result PartRecord RollFault) (new : PassRecord) where
   pub record Rolls (old : PassRecord) : Type 0 where
@@ -212,6 +241,8 @@ module _ (result : Result PartRecord RollFault) (new : PassRecord) where
     pub rolled : IfOk result (λ book. AddsRoll (state_of old) (state_of new))
     pub ended : IfOk result (λ book. Ended new (length (rolls new)) book)
     pub none : OnErr result (EntersNone (state_of old) (state_of new))
+    pub refused : IfErr result (λ fault. means.RefusesRoll (front new) new.desk.book.site.room fault)
+    pub few : inverters new.desk.book.site ≤ 64
     pub full_life : (calls : ℕ) → IfErr result (λ fault. fault ≡ LifeFull calls → WasFullLife new calls)
     pub later : IsLater old new
 
@@ -220,6 +251,8 @@ rolled (Ok book) new old is = record {
   rolled = over_adds old book new is.ended;
   ended = over_ended old book new is.ended;
   none = tt;
+  refused = tt;
+  few = few_later old new is.ended.between is.ended.finds (over_later old book new is.ended);
   full_life = λ calls. tt;
   later = over_later old book new is.ended;
 }
@@ -227,6 +260,8 @@ rolled (Err fault) new old is = record {
   rolled = tt;
   ended = tt;
   none = looks_none old new is.refused.looks;
+  refused = refuses old new fault is.refused;
+  few = looks_few old new is.refused.looks;
   full_life = λ calls. full_life old new calls fault is.refused;
   later = looks_later old new is.refused.looks;
 }

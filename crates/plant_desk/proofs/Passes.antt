@@ -184,7 +184,7 @@ rests_as name old later me was is now rests = λ i. record {
 }
 
 -- every book of a life is of one site
-site-after : (life : Life) (deeds : List Deed) → (life_after life deeds).last.site ≡ life.last.site
+pub site-after : (life : Life) (deeds : List Deed) → (life_after life deeds).last.site ≡ life.last.site
 site-after life [] = refl
 site-after life (Entered by entry ∷ deeds) = site-after (lives.after life (Entered by entry)) deeds
 site-after life (Rolled by ∷ deeds) = site-after (lives.after life (Rolled by)) deeds

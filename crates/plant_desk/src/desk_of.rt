@@ -63,6 +63,8 @@ impl<'a, R: Wait> Desk for DeskOf<'a, R> {
 
     ghost kept = { λ pass. identity pass };
 
+    ghost room_of = { λ kept. kept.0.book.site.room };
+
     fn call(&mut self, call: Call) -> Result<Outcome, BookFull> {
         self.desk.apply(self.rt, &mut self.pass, call)
     }

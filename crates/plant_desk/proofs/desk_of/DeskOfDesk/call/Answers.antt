@@ -18,9 +18,11 @@ returns g c =
       ticket = c.apply.ensures.ticket;
       none = done.none;
       full = done.full;
+      room = done.room;
       goals_last = goals_last old new done.later;
       full_lasts = full_lasts old new done.later;
       rolls_last = rolls_last old new done.later;
       lives_last = lives_last old new done.later;
       kept = kept_lasts old new done.later;
+      few = done.few;
     }

@@ -2,7 +2,7 @@
 use Rattle.std.proofs.Common.{subst}
 use Rattle.plant_desk.specs.Passes.{PassRecord, Looks}
 use Rattle.plant_desk.proofs.Later.{goals_last, full_lasts, rolls_last, lives_last, kept_lasts}
-use Rattle.plant_desk.proofs.Meant.{looks_later, looks_none, tells}
+use Rattle.plant_desk.proofs.Meant.{looks_later, looks_none, looks_few, tells}
 use Rattle.plant_desk.proofs.desk_of.DeskOfDesk.goal.Goals as goal
 
 pub returns : goal.returns
@@ -19,4 +19,5 @@ returns g c =
       rolls_last = rolls_last old new later;
       lives_last = lives_last old new later;
       kept = kept_lasts old new later;
+      few = looks_few old new looks;
     }

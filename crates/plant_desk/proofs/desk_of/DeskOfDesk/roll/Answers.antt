@@ -15,10 +15,12 @@ returns g c =
       rolled = done.rolled;
       ended = done.ended;
       none = done.none;
+      refused = done.refused;
       full_life = done.full_life;
       goals_last = goals_last old new done.later;
       full_lasts = full_lasts old new done.later;
       rolls_last = rolls_last old new done.later;
       lives_last = lives_last old new done.later;
       kept = kept_lasts old new done.later;
+      few = done.few;
     }
