@@ -1,6 +1,6 @@
 use Rattle.std.proofs.Common.{◌∙◌}
-use Rattle.commission_run.proofs.Writing.{front_more}
-use Rattle.commission_run.proofs.output.write_whole.Goals as goal
+use Rattle.stream_io.proofs.Writing.{front_more}
+use Rattle.stream_io.proofs.output.write_whole.Goals as goal
 
 pub loop-rest-preserved : goal.loop-rest-preserved
 loop-rest-preserved g c = record {

@@ -1,6 +1,6 @@
 use Rattle.std.proofs.Common.{◌≡◌, ◌++◌, ℕ, List, length}
 use Rattle.std.specs.Io.KnownBytes.{Appends}
-use Rattle.commission_run.proofs.output.write_whole.Given as goal
+use Rattle.stream_io.proofs.output.write_whole.Given as goal
 
 -- no write failed, and the sink took the bytes but the rest
 abbrev pub invariant-loop-rest : goal.invariant-loop-rest
