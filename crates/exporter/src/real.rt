@@ -36,11 +36,16 @@ impl<R: Read> Source for Input<R> {
 pub struct Output<W> {
     writer: W,
     faults: u64,
+    late: u64,
 }
 
 impl<W> Output<W> {
     pub fn new(writer: W) -> Self {
-        Output { writer, faults: 0 }
+        Output {
+            writer,
+            faults: 0,
+            late: 0,
+        }
     }
 }
 
@@ -49,9 +54,16 @@ impl<W: Write> Sink for Output<W> {
 
     ghost faults = { λ s. s.faults };
 
+    ghost late = { λ s. s.late };
+
     fn write(&mut self, bytes: &[u8]) -> Result<usize, WriteFailed> {
         match self.writer.write(bytes) {
-            Ok(count) if count > 0 || bytes.is_empty() => Ok(count),
+            Ok(count) if count > 0 || bytes.is_empty() => {
+                if self.faults > 0 {
+                    self.late = self.late.saturating_add(1);
+                }
+                Ok(count)
+            }
             _ => {
                 self.faults = self.faults.saturating_add(1);
                 Err(WriteFailed)

@@ -1,5 +1,5 @@
 -- What contracts see of the fakes in memory, and the state of each after each call.
-use Rattle.std.specs.Prelude.{◌≡◌, ℕ, ◌⊎◌, List, [], ◌++◌, drop, Contains}
+use Rattle.std.specs.Prelude.{◌≡◌, ◌==◌, ℕ, ◌⊎◌, List, [], ◌++◌, drop, Contains, if◌then◌else◌}
 use Rattle.world_traits.specs.Causes.{one_more}
 
 -- the numbers of the calls that fail, the count of calls so far and the count of faults
@@ -45,19 +45,29 @@ after_read source count = record { left = drop count source.left; schedule = aft
 abbrev pub after_failed_read : SourceState → SourceState
 after_failed_read source = record source { schedule = after_failure source.schedule }
 
--- the bytes that were taken, which calls fail, and the count of refusals for memory
+-- the bytes that were taken, which calls fail, the count of writes that worked after one had failed, and the count of
+-- refusals for memory
 pub record SinkState : Type 0 where
   pub taken : List ℕ
   pub schedule : ScheduleState
+  pub late : ℕ
   pub starved : ℕ
 
 -- no write yet
 abbrev pub new_sink : List ℕ → SinkState
-new_sink failing = record { taken = []; schedule = new_schedule failing; starved = 0 }
+new_sink failing = record { taken = []; schedule = new_schedule failing; late = 0; starved = 0 }
+
+-- the count of late writes after one more that worked, where so many had failed
+abbrev pub late_after : (faults late : ℕ) → ℕ
+late_after faults late = if faults == 0 then late else one_more late
 
 -- after a write that took a piece whole
 abbrev pub after_write : SinkState → List ℕ → SinkState
-after_write sink bytes = record sink { taken = sink.taken ++ bytes; schedule = after_success sink.schedule }
+after_write sink bytes = record sink {
+  taken = sink.taken ++ bytes;
+  schedule = after_success sink.schedule;
+  late = late_after sink.schedule.faults sink.late;
+}
 
 -- after a write that was to fail
 abbrev pub after_failed_write : SinkState → SinkState

@@ -1,8 +1,8 @@
 ghost use Rattle.std.specs.Prelude.{◌≡◌, ◌<◌, IsErr, IfOk, OnErr, OnOk, Some, length};
 ghost use Rattle.std.specs.Io.{WritesAtMost};
 ghost use Rattle.std.specs.Io.KnownBytes.{WriteAppends};
-ghost use Rattle.world_traits.specs.Causes.{HasCause};
-ghost use Rattle.world_traits.specs.Fakes.{FailsNext, IsRefusedOrStarved, after_failed_write, after_starved_write, after_write, new_sink};
+ghost use Rattle.world_traits.specs.Causes.{CountsLate, HasCause};
+ghost use Rattle.world_traits.specs.Fakes.{FailsNext, IsRefusedOrStarved, after_failed_write, after_starved_write, after_write, late_after, new_sink};
 
 use crate::schedule::Schedule;
 use crate::sink::{Sink, WriteFailed};
@@ -15,6 +15,7 @@ use std::marker::Model;
 pub struct BytesSink {
     taken: Vec<u8>,
     schedule: Schedule,
+    late: u64,
     starved: u64,
 }
 
@@ -23,7 +24,7 @@ impl Model for BytesSink {
 
     ghost Value = { SinkState };
 
-    ghost view = { λ s. record { taken = s.taken.items; schedule = s.schedule; starved = s.starved } };
+    ghost view = { λ s. record { taken = s.taken.items; schedule = s.schedule; late = s.late; starved = s.starved } };
 }
 
 impl BytesSink {
@@ -34,6 +35,7 @@ impl BytesSink {
         BytesSink {
             taken: Vec::new(alloc),
             schedule: Schedule::new(failing),
+            late: 0,
             starved: 0,
         }
     }
@@ -58,11 +60,14 @@ impl Sink for BytesSink {
 
     ghost faults = { λ s. s.schedule.faults };
 
+    ghost late = { λ s. s.late };
+
     fn write(&mut self, bytes: &[u8]) -> Result<usize, WriteFailed>
         ensures bound { WritesAtMost result bytes.now }
         ensures some { IfOk result (λ count. 0 < length bytes.now → 0 < count) }
         ensures bytes { WriteAppends (Some self.old.taken) (Some self.new.taken) result bytes.now }
         ensures cause { HasCause self.old.schedule.faults self.new.schedule.faults result }
+        ensures late { CountsLate self.old.schedule.faults self.old.late self.new.late result }
 
         // It takes the piece whole, and fails where that is listed and where memory runs out.
         ensures listed_fails { FailsNext self.old.schedule → IsErr result }
@@ -79,6 +84,18 @@ impl Sink for BytesSink {
             self.schedule.fault();
             return Err(WriteFailed);
         }
+        self.late = late_count(self.schedule.faults(), self.late);
         Ok(bytes.len())
+    }
+}
+
+/// The count of late writes after one more that worked, where so many had failed.
+fn late_count(faults: u64, late: u64) -> u64
+    ensures { result ≡ late_after faults late }
+{
+    if faults == 0 {
+        late
+    } else {
+        late.saturating_add(1)
     }
 }

@@ -56,6 +56,13 @@ impl Schedule {
         self.faults = self.faults.saturating_add(1);
     }
 
+    /// How many calls failed so far.
+    pub fn faults(&self) -> u64
+        ensures { result ≡ self.now.faults }
+    {
+        self.faults
+    }
+
     fn lists(&self, call: u64) -> bool
         ensures { IsTrue result ↔ Contains self.now.failing call }
     {

@@ -1,7 +1,7 @@
 ghost use Rattle.std.specs.Prelude.{ℕ, ◌<◌, List, Option, IfOk, length};
 ghost use Rattle.std.specs.Io.{WritesAtMost};
 ghost use Rattle.std.specs.Io.KnownBytes.{WriteAppends};
-ghost use Rattle.world_traits.specs.Causes.{HasCause};
+ghost use Rattle.world_traits.specs.Causes.{CountsLate, HasCause};
 
 /// A write failed. No byte of it was taken.
 #[derive(Clone, Copy, Debug, PartialEq, Eq)]
@@ -15,10 +15,14 @@ pub trait Sink {
     /// How often a write has failed.
     ghost faults: { Self → ℕ };
 
+    /// How often a write has worked after one had failed.
+    ghost late: { Self → ℕ };
+
     /// Takes the first bytes of a piece, and tells how many. Of a piece that isn't empty it takes at least one.
     fn write(&mut self, bytes: &[u8]) -> Result<usize, WriteFailed>
         ensures bound { WritesAtMost result bytes.now }
         ensures some { IfOk result (λ count. 0 < length bytes.now → 0 < count) }
         ensures bytes { WriteAppends (taken self.old) (taken self.new) result bytes.now }
-        ensures cause { HasCause (faults self.old) (faults self.new) result };
+        ensures cause { HasCause (faults self.old) (faults self.new) result }
+        ensures late { CountsLate (faults self.old) (late self.old) (late self.new) result };
 }
