@@ -1,4 +1,3 @@
-pub mod Writing
 pub mod Taking
 pub mod Linked
 pub mod Stages

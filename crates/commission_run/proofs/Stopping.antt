@@ -20,7 +20,8 @@ use Rattle.commissioning.specs.Runs.{standing_after, requests, request_by}
 use Rattle.commission_run.specs.declared.stop.Stop.{Stop}
 use Rattle.commission_run.specs.declared.stop.Stop.TheVariants.{WriteFailed, Refused}
 use Rattle.commission_run.specs.declared.stop.Refusal.TheVariants as by
-use Rattle.commission_run.specs.Lines.{AppendsFront, found_text, end_text, passed_text, commissioned_line}
+use Rattle.commission_run.specs.Lines.{found_text, end_text, passed_text, commissioned_line}
+use Rattle.stream_io.specs.Streams.{AppendsFront}
 use Rattle.commission_run.specs.Course.{answered}
 use Rattle.commission_run.specs.Ends.{Outcome, IsSent, IsCause, IsWritten, last_answer, IsCourse}
 use Rattle.frame_inbox.specs.declared.inbox.NoFrame.{NoFrame}

@@ -17,7 +17,8 @@ use Rattle.commission_run.specs.declared.stop.Stop.{Stop}
 use Rattle.commission_run.specs.declared.stop.Stop.TheVariants.{WriteFailed, Refused}
 use Rattle.commission_run.specs.declared.stop.Refusal.{Refusal}
 use Rattle.commission_run.specs.declared.stop.Refusal.TheVariants as by
-use Rattle.commission_run.specs.Lines.{found_text, AppendsFront}
+use Rattle.commission_run.specs.Lines.{found_text}
+use Rattle.stream_io.specs.Streams.{AppendsFront}
 
 -- the links with this one up
 abbrev pub with_current : Link → Links → Links

@@ -16,7 +16,8 @@ use Rattle.commissioning.specs.Runs.{standing_after, requests}
 use Rattle.commission_run.specs.declared.stop.Stop.{Stop}
 use Rattle.commission_run.specs.declared.stop.Stop.TheVariants.{WriteFailed, Refused}
 use Rattle.commission_run.specs.declared.stop.Refusal.TheVariants as by
-use Rattle.commission_run.specs.Lines.{passed_text, AppendsFront}
+use Rattle.commission_run.specs.Lines.{passed_text}
+use Rattle.stream_io.specs.Streams.{AppendsFront}
 use Rattle.commission_run.specs.Course.{AreFirst, answered, EachAwaits}
 
 -- the end of a commissioning: done, or stopped

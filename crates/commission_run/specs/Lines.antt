@@ -1,7 +1,6 @@
 -- The lines that a commissioning writes.
-use Rattle.std.specs.Prelude.{◌≡◌, ℕ, List, [], ◌∷◌, ◌++◌, codes, Option, Some, None}
+use Rattle.std.specs.Prelude.{ℕ, List, [], ◌∷◌, ◌++◌, codes, Option, Some, None}
 use Rattle.std.specs.Fmt.{decimal, signed_decimal}
-use Rattle.std.specs.Io.KnownBytes.{Appends}
 use Rattle.commissioning.specs.declared.found.Record702.{Record702}
 use Rattle.commissioning.specs.Stage.{Stage, Commissioned, found_at}
 
@@ -27,7 +26,3 @@ end_text inverter _ = []
 -- the lines of the points that a commissioning has passed when it stands at a stage
 abbrev pub passed_text : ℕ → Stage → List ℕ
 passed_text inverter stage = found_text (found_at stage) ++ end_text inverter stage
-
--- the known bytes grow by the first bytes of a text
-abbrev pub AppendsFront : Option (List ℕ) → Option (List ℕ) → List ℕ → Type 0
-AppendsFront old new text = (front rest : List ℕ) × (text ≡ front ++ rest) × Appends old new front

@@ -8,7 +8,6 @@
 mod job;
 mod laws;
 mod line;
-mod output;
 mod run;
 mod stop;
 

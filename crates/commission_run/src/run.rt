@@ -10,7 +10,7 @@ ghost use Rattle.commissioning.specs.Stage.{found_at};
 ghost use Rattle.commissioning.specs.Asking.{asked};
 ghost use Rattle.commissioning.specs.Taking.{taken};
 ghost use Rattle.commissioning.specs.Ending.{frames_left};
-ghost use Rattle.commission_run.specs.Lines.{AppendsFront};
+ghost use Rattle.stream_io.specs.Streams.{AppendsFront};
 ghost use Rattle.commission_run.specs.Course.{target_of, with_past_link};
 ghost use Rattle.commission_run.specs.Ends.{IsCourse, HasReplies, at_dialer, at_output};
 ghost use Rattle.commission_run.specs.Arriving as arriving;
@@ -19,11 +19,11 @@ ghost use Rattle.frame_inbox.specs.Waiting.{Arrives};
 
 use crate::job::Job;
 use crate::line::{Line, commissioned_text, found_text};
-use crate::output::write_whole;
 use crate::stop::{Refusal, Stop};
 use commissioning::{Commission, Record702, Took};
 use frame_inbox::{Inbox, NoFrame};
 use mbap_frames::{Frame, frame_bytes};
+use stream_io::write_whole;
 use world_traits::{Dialer, Sink, send_whole};
 
 /// Dials an inverter, commissions it over the link, and hangs up. It writes the line of the points as soon as they

@@ -111,8 +111,7 @@ Reached target all (ReadingCapacity start base) = IsDiscovered target all start 
 Reached target all (ReadingControls base wmax wsf) = HasCapacity target all base wmax wsf
 Reached target all (WritingFloor found) = HasControls target all found × IsFit target found
 Reached target all (ReadingBack found) = IsWritten target all found
-Reached target all (Commissioned found) = ⊥
-Reached target all (Refused fault found) = ⊥
+Reached target all _ = ⊥
 
 -- The last request was asked at such a stage, and what came to it has led to this fault.
 pub record IsRefused (target : Target) (all : List Exchange) (fault : CommissionFault) (found : Option Record702) : Type 0 where
@@ -127,13 +126,9 @@ pub record IsRefused (target : Target) (all : List Exchange) (fault : Commission
 
 -- what has passed when a commissioning stands at a stage
 abbrev pub Passed : Target → List Exchange → Stage → Type 0
-Passed target all (Discovering walk) = IsWalked target all walk × IsSome (wanted_pdu (next_read walk.place))
-Passed target all (ReadingCapacity start base) = IsDiscovered target all start base
-Passed target all (ReadingControls base wmax wsf) = HasCapacity target all base wmax wsf
-Passed target all (WritingFloor found) = HasControls target all found × IsFit target found
-Passed target all (ReadingBack found) = IsWritten target all found
 Passed target all (Commissioned found) = IsCommissioned target all found
 Passed target all (Refused fault found) = IsRefused target all fault found
+Passed target all stage = Reached target all stage
 
 -- a commissioning that was handed the replies of these exchanges has had just these, and stands at this stage
 pub record IsAt (target : Target) (all : List Exchange) (stage : Stage) : Type 0 where

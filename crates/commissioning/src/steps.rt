@@ -9,8 +9,9 @@ ghost use Rattle.commissioning.specs.Keeping.{stage_of, IsUnderway, Wants};
 use crate::fault::CommissionFault;
 use crate::found::Record702;
 use crate::target::Target;
-use der_models::offsets::M704_W_MAX_LIM_PCT_ENA;
-use der_models::{capacity, pct_sf};
+use der_models::identifiers::{AC_CONTROLS, CAPACITY};
+use der_models::offsets::{M702_W_SF, M704_W_MAX_LIM_PCT_ENA, M704_W_MAX_LIM_PCT_SF};
+use der_models::{HEADER, capacity, pct_sf};
 use limiter_num::{Point, Rules};
 use modbus_pdu::{READ_REGISTERS, Regs, Reply, WRITE_REGISTERS};
 use model_discovery::{Next, Walk};
@@ -18,16 +19,15 @@ use plant_book::{Port, Unit};
 use readback::{Judged, judge_reply};
 
 /// How many registers are read of the block of model 702: up to W_SF.
-pub(crate) const CAPACITY_REGISTERS: u16 = 46;
+pub(crate) const CAPACITY_REGISTERS: u16 = M702_W_SF as u16 + 1;
 
 /// How many registers are read of the block of model 704: up to WMaxLimPct_SF.
-pub(crate) const CONTROLS_REGISTERS: u16 = 55;
+pub(crate) const CONTROLS_REGISTERS: u16 = M704_W_MAX_LIM_PCT_SF as u16 + 1;
 
-/// How many registers a read of the walk asks for.
-const WALK_REGISTERS: u16 = 2;
-
-/// How many registers the write of a limit has.
+/// How many registers the write of a limit has, those of `limit_block`.
 const LIMIT_REGISTERS: u16 = 6;
+
+const _: () = prove!(CAPACITY_REGISTERS == 46 && CONTROLS_REGISTERS == 55);
 
 /// What is asked next.
 #[derive(Clone, Copy, Debug)]
@@ -93,7 +93,7 @@ fn discover(walk: &mut Walk, reply: Option<Reply>) -> Stage
     requires { IsUnderway walk.old.place }
     ensures { stage_of result walk.new ≡ replies.discovered walk.old (replies.block_of 2 reply) }
 {
-    let told = match block(reply, WALK_REGISTERS) {
+    let told = match block(reply, HEADER) {
         Ok(registers) => walk.took(registers.as_slice()),
         Err(CommissionFault::Exception(code)) => walk.refused(code),
         Err(fault) => return Stage::Refused(fault, None),
@@ -109,7 +109,7 @@ fn after_answer(walk: &Walk) -> Stage
     requires { fault_of walk.now.place ≡ None }
     ensures { stage_of result walk.now ≡ replies.walked walk.now }
 {
-    match (walk.next(), walk.find(702), walk.find(704)) {
+    match (walk.next(), walk.find(CAPACITY), walk.find(AC_CONTROLS)) {
         (Next::Done, Some(capacity), Some(controls)) => Stage::ReadingCapacity {
             start: capacity.start,
             base: controls.start,

@@ -1,10 +1,2 @@
-pub mod Written
-pub mod Endings
-pub mod Replaying
-pub mod Checking
-pub mod Tasks
-pub mod Timers
 pub mod OneTask
 pub mod OneSimulation
-pub mod Simulated
-pub mod Runs

@@ -1,8 +1,8 @@
 -- Words ask for one simulation at most.
 use Rattle.std.proofs.Common.{◌≡◌, ℕ, List, [], sym, ap, ◌∙◌, arith, get_or}
 use Rattle.std.proofs.lemmas.Fmt.{decimal_injective}
-use Rattle.exporter_commands.specs.declared.command.Simulation.{Simulation}
-use Rattle.exporter_commands.specs.Simulate.{AreSimulate, simulate_words}
+use Rattle.simulate_command.specs.declared.command.Simulation.{Simulation}
+use Rattle.exporter_commands.specs.Words.{AreSimulate, simulate_words}
 
 -- a word of a list
 abbrev word : ℕ → List (List ℕ) → List ℕ

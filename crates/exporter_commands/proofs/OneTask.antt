@@ -4,8 +4,7 @@ use Rattle.std.specs.Fmt.{decimal}
 use Rattle.std.proofs.lemmas.Fmt.{decimal_injective}
 use Rattle.exporter_commands.specs.declared.words.Task.{Task}
 use Rattle.exporter_commands.specs.declared.words.Task.TheVariants as tasks
-use Rattle.exporter_commands.specs.Run.{AreRun}
-use Rattle.exporter_commands.specs.Words.{Ask, IsTask, words_of}
+use Rattle.exporter_commands.specs.Words.{AreRun, Ask, IsTask, words_of}
 
 -- a word of a list
 abbrev word : ℕ → List (List ℕ) → List ℕ

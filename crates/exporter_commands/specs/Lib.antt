@@ -1,14 +1,2 @@
-pub mod Replay
-pub mod Streams
-pub mod Ends
-pub mod Site
-pub mod Check
-pub mod Simulate
-pub mod Command
 pub mod Words
-pub mod Dialing
-pub mod Finding
-pub mod Commission
-pub mod Serve
 pub mod Live
-pub mod Run

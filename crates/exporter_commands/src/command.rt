@@ -1,29 +1,10 @@
 ghost use Rattle.std.specs.Prelude.{◌≡◌, List, [], ◌∷◌, IfNone, IfSome, map};
 ghost use Rattle.std.specs.String.{string_bytes};
-ghost use Rattle.exporter_commands.specs.declared.command.Simulation.{Simulation};
-ghost use Rattle.exporter_commands.specs.Replay.{AreReplay};
-ghost use Rattle.exporter_commands.specs.Check.{AreCheck};
-ghost use Rattle.exporter_commands.specs.Simulate.{AreSimulate};
-ghost use Rattle.exporter_commands.specs.Command.{Asks};
+ghost use Rattle.simulate_command.specs.declared.command.Simulation.{Simulation};
+ghost use Rattle.exporter_commands.specs.Words.{AreCheck, AreReplay, AreSimulate, Asks};
 
 use crate::words::number_of;
-
-/// The greatest count of inverters of a simulation.
-const INVERTERS_MAX: u64 = 64;
-
-/// The greatest count of its steps.
-const STEPS_MAX: u64 = 1_000_000;
-
-/// A plant to be simulated.
-#[derive(Clone, Copy)]
-pub struct Simulation {
-    /// The seed from which all of it follows.
-    pub seed: u64,
-    /// How many inverters the plant has: 1 to 64.
-    pub inverters: u32,
-    /// How many steps it goes: 1 to 1,000,000.
-    pub steps: u32,
-}
+use simulate_command::{INVERTERS_MAX, STEPS_MAX, Simulation};
 
 /// What is to be done with an input and an output.
 #[derive(Clone, Copy)]

@@ -1,28 +1,15 @@
-//! The commands of the program, over any input, output, links and clock.
+//! The commands of the program by their words, over any input, output, links and clock.
 //!
 //! `plain` does those that need no link: `replay`, `check` and `simulate`. `live` does those over links: `run`,
-//! `commission` and `serve`. Their contracts say all that the program does; `exporter` hands them the real world.
+//! `commission` and `serve`. Each command is a crate of its own, whose `specs/` say what its ends mean; the contracts
+//! here say which words ask for it. `exporter` hands `plain` and `live` the real world.
 #![tactic(auto)]
 
-mod check;
 mod command;
-mod commission;
-mod ended;
-mod fault_text;
-mod finding;
-mod input;
 mod live_commands;
-mod live_fault;
-mod output;
 mod plain_commands;
-mod replay;
-mod run;
-mod serve;
-mod simulate;
-mod site;
 mod words;
 
-pub use ended::{Ended, status};
+pub use command_io::{Ended, LiveFault, status};
 pub use live_commands::live;
-pub use live_fault::LiveFault;
 pub use plain_commands::plain;

@@ -2,8 +2,7 @@ ghost use Rattle.exporter_commands.specs.declared.words.Task.{Task};
 ghost use Rattle.std.specs.Prelude.{◌≡◌, ◌<◌, ◌≤◌, ◌^◌, ℕ, List, [], ◌∷◌, codes, IfNone, IfSome, map};
 ghost use Rattle.std.specs.String.{string_bytes};
 ghost use Rattle.std.specs.Fmt.{decimal};
-ghost use Rattle.exporter_commands.specs.Words.{Ask};
-ghost use Rattle.exporter_commands.specs.Run.{AreRun};
+ghost use Rattle.exporter_commands.specs.Words.{AreRun, Ask};
 
 use itoa::Buffer;
 

@@ -10,7 +10,8 @@ use Rattle.commissioning.specs.Stage.{Standing, found_at}
 use Rattle.commissioning.specs.Asking.{asked}
 use Rattle.commissioning.specs.Runs.{request_by}
 use Rattle.commission_run.specs.declared.stop.Stop.{Stop}
-use Rattle.commission_run.specs.Lines.{AppendsFront, found_text}
+use Rattle.commission_run.specs.Lines.{found_text}
+use Rattle.stream_io.specs.Streams.{AppendsFront}
 use Rattle.commission_run.specs.Course.{target_of}
 use Rattle.commission_run.specs.Ends.{Outcome}
 use Rattle.frame_inbox.specs.Waiting.{Arrives}
