@@ -4,7 +4,6 @@ use crate::live_fault::LiveFault;
 use commissioning::CommissionFault;
 use limiter_num::RatingFault;
 use site_config::{Key, SiteFault};
-use site_run::point_name;
 use std::fmt;
 use std::fmt::Formatter;
 
@@ -51,11 +50,11 @@ fn write_key<W: fmt::Write>(
 fn write_rating_fault<W: fmt::Write>(f: &mut Formatter<W>, fault: RatingFault) -> fmt::Result {
     match fault {
         RatingFault::NotImplemented(point) => {
-            let point = point_name(point);
+            let point = point.name();
             write!(f, "notimplemented {point}")
         }
         RatingFault::ScaleOut(point, scale) => {
-            let point = point_name(point);
+            let point = point.name();
             write!(f, "scaleout {point} {scale}")
         }
         RatingFault::NoResolution => f.write_str("noresolution"),
@@ -101,7 +100,7 @@ fn write_commission_fault<W: fmt::Write>(
             wanted,
             found,
         } => {
-            let point = point_name(point);
+            let point = point.name();
             write!(f, "unfit {point} {wanted} {found}")
         }
         CommissionFault::Exception(code) => write!(f, "exception {code}"),

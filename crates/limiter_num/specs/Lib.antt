@@ -3,3 +3,4 @@ pub mod Milliwatts
 pub mod Rating
 pub mod RatingFaults
 pub mod Timers
+pub mod Points

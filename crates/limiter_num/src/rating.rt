@@ -3,6 +3,7 @@ ghost use Rattle.std.specs.Int.RustNames.{unsigned_abs};
 ghost use Rattle.limiter_num.specs.Greatest.{greatest_up_to};
 ghost use Rattle.limiter_num.specs.Milliwatts.{scaled_up, power_of, mw_of, full_of, IsRated};
 ghost use Rattle.limiter_num.specs.RatingFaults.{missing_fault, scale_fault};
+ghost use Rattle.limiter_num.specs.Points.{name_of_point};
 
 /// A point of the models 702 and 704 that a refusal names.
 #[derive(Clone, Copy, Debug, PartialEq, Eq)]
@@ -25,6 +26,25 @@ pub enum Point {
     EnaRvrt,
     /// WMaxLimPctRvrtTms of 704.
     RvrtTms,
+}
+
+impl Point {
+    /// The name of the point as texts have it, in lower-case letters.
+    pub fn name(self) -> &'static str
+        ensures { result.now ≡ name_of_point self }
+    {
+        match self {
+            Point::WMax => "wmax",
+            Point::WSf => "wsf",
+            Point::PctSf => "pctsf",
+            Point::Base => "base",
+            Point::Ena => "ena",
+            Point::Pct => "pct",
+            Point::PctRvrt => "pctrvrt",
+            Point::EnaRvrt => "enarvrt",
+            Point::RvrtTms => "rvrttms",
+        }
+    }
 }
 
 /// Why the points of an inverter make no rating.

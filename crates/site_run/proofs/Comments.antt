@@ -7,6 +7,7 @@ use Rattle.std.specs.Str.Lines.{lines}
 use Rattle.std.proofs.lemmas.List.Elements.{All-nil, All-cons}
 use Rattle.limiter_num.specs.declared.rating.Point.{Point}
 use Rattle.limiter_num.specs.declared.rating.Point.TheVariants as points
+use Rattle.limiter_num.specs.Points.{name_of_point}
 use Rattle.script_text.specs.Grammar.{IsComment}
 use Rattle.script_text.specs.Reading.{row_at, behind_row}
 use Rattle.script_text.proofs.LineEnds.{is_plain, plain_more, row_past, behind_past, lines_first}
@@ -17,7 +18,7 @@ use Rattle.inverter_worker.specs.declared.state.End.TheVariants as ends
 use Rattle.inverter_worker.specs.declared.state.Step.{Step}
 use Rattle.inverter_worker.specs.declared.state.Step.TheVariants.{Over}
 use Rattle.worker_turn.specs.Worker.{WorkerRecord}
-use Rattle.site_run.specs.Report.{name_of_point, end_name, worker_line, worker_lines}
+use Rattle.site_run.specs.Report.{end_name, worker_line, worker_lines}
 
 -- a comment line, and comments behind it
 one_comment : (body behind : List ℕ) → is_plain body ≡ true → IsComment body → AreComments behind → AreComments (body ++ 10 ∷ behind)

@@ -2,8 +2,7 @@
 use Rattle.std.specs.Prelude.{ℕ, Bool, true, false, if◌then◌else◌, List, [], ◌∷◌, ◌++◌, codes, length}
 use Rattle.std.specs.List.{flat_map, enumerate_from, list_any}
 use Rattle.std.specs.Fmt.{decimal}
-use Rattle.limiter_num.specs.declared.rating.Point.{Point}
-use Rattle.limiter_num.specs.declared.rating.Point.TheVariants as points
+use Rattle.limiter_num.specs.Points.{name_of_point}
 use Rattle.plant_book.specs.Part.{PartRecord, first_book}
 use Rattle.script_text.specs.Text.{book_text}
 use Rattle.inverter_worker.specs.declared.state.End.{End}
@@ -14,17 +13,7 @@ use Rattle.worker_turn.specs.Worker.{WorkerRecord}
 use Rattle.site_run.specs.declared.report.RunEnd.{RunEnd}
 use Rattle.site_run.specs.declared.report.RunEnd.TheVariants as runs
 
-abbrev pub name_of_point : Point → List ℕ
-name_of_point points.WMax = codes "wmax"
-name_of_point points.WSf = codes "wsf"
-name_of_point points.PctSf = codes "pctsf"
-name_of_point points.Base = codes "base"
-name_of_point points.Ena = codes "ena"
-name_of_point points.Pct = codes "pct"
-name_of_point points.PctRvrt = codes "pctrvrt"
-name_of_point points.EnaRvrt = codes "enarvrt"
-name_of_point points.RvrtTms = codes "rvrttms"
-
+-- how a worker is over, as it is told
 abbrev pub end_name : End → List ℕ
 end_name ends.TurnsDone = codes "turns"
 end_name ends.Stopped = codes "stopped"

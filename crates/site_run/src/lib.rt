@@ -8,5 +8,5 @@ mod opening;
 mod report;
 mod run;
 
-pub use report::{RunEnd, point_name, run_end, run_text};
+pub use report::{RunEnd, run_end, run_text};
 pub use run::{Ran, run_site};

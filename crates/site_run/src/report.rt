@@ -5,12 +5,12 @@ ghost use Rattle.plant_book.specs.Answered.{IsBook};
 ghost use Rattle.script_text.specs.Text.{book_text};
 ghost use Rattle.script_replay.specs.Replay.{IsReplay};
 ghost use Rattle.std.specs.List.{list_any};
-ghost use Rattle.site_run.specs.Report.{end_name, end_of_run, found_full, lacks_memory, name_of_point};
+ghost use Rattle.site_run.specs.Report.{end_name, end_of_run, found_full, lacks_memory};
 ghost use Rattle.site_run.specs.Report.{text_of_run, worker_line, worker_lines};
 
 use crate::run::Ran;
 use inverter_worker::End;
-use limiter_num::{NoMemory, Point};
+use limiter_num::NoMemory;
 use plant_ledger::Plant;
 use script_replay::books_replay_as_themselves;
 use script_text::{entry_text, head_text};
@@ -33,23 +33,6 @@ pub enum RunEnd {
     NoMemory,
 }
 
-/// The name of a point in lower-case letters.
-pub fn point_name(point: Point) -> &'static str
-    ensures { result.now ≡ name_of_point point }
-{
-    match point {
-        Point::WMax => "wmax",
-        Point::WSf => "wsf",
-        Point::PctSf => "pctsf",
-        Point::Base => "base",
-        Point::Ena => "ena",
-        Point::Pct => "pct",
-        Point::PctRvrt => "pctrvrt",
-        Point::EnaRvrt => "enarvrt",
-        Point::RvrtTms => "rvrttms",
-    }
-}
-
 /// How a worker is over, as it is told.
 #[derive(Drop)]
 struct EndName(End);
@@ -67,7 +50,7 @@ impl Display for EndName {
                 wanted,
                 found,
             } => {
-                let point = point_name(point);
+                let point = point.name();
                 write!(f, "unfit {point} {wanted} {found}")
             }
             End::NoMemory => f.write_str("nomemory"),
