@@ -39,7 +39,11 @@ use Rattle.plant_ledger.specs.Account.{IsAccount, HasRoom, first_account, after_
 use Rattle.plant_ledger.specs.Ledger.{IsUnit, AreAccounts, IsLedger, IsLedgerOf, account_at}
 use Rattle.plant_ledger.specs.Plant.{with_one, next_book, Rolls}
 use Rattle.plant_ledger.proofs.Following.{own_account, other_account, later_account, first_is_account}
-use Rattle.plant_ledger.proofs.Fitting.{fits_call, has_room}
+use Rattle.plant_ledger.proofs.Fitting.{fits_call, has_room, granted_next}
+use Rattle.plant_ledger.proofs.Standing.{IsNextGrant, any_account}
+use Rattle.plant_book.proofs.Few.{live_few}
+use Rattle.plant_book.specs.declared.call.Write as writes
+use Rattle.plant_book.specs.declared.call.Reply.TheVariants as replies
 
 -- a list that was written through a slice of all of it
 pub whole : {X : Type 0} (xs ys : List X) (len : ℕ) → length xs ≡ len → take len (xs ++ drop (length xs) ys) ≡ xs
@@ -120,11 +124,6 @@ module _ (book : BookRecord) (entry : Entry) (accounts others : List Account) (a
             other_account book entry inverter (get_or accounts inverter default) (are.each inverter default of_site) pends answer fits (λ its. let never = sym none ∙ its in cc);
       })
 
--- an account, to have one where it doesn't matter which
-any_account : (accounts : List Account) → 0 < length accounts → Account
-any_account [] some = absurd (omega (arith, some))
-any_account (account ∷ later) some = account
-
 next_accounts : (book : BookRecord) (entry : Entry) (accounts others : List Account) → AreAccounts book (moment entry.call) accounts
     → IsBook book → IsAnswer book book.entries entry → IsNext book.site book.start book.entries entry.call → Follow book entry accounts others
     → (who : Option ℕ) → named entry.call ≡ who → AreAccounts (with_entry book entry) (moment entry.call) others
@@ -186,6 +185,16 @@ module _ (book : BookRecord) (entry : Entry) (now : ℕ) (accounts : List Accoun
 
   pub room_left : HasRoom entry.reply (get_or accounts inverter otherwise)
   room_left = has_room book entry now inverter (get_or accounts inverter otherwise) (ledger.of_inverters.each inverter otherwise within) is may.at_once ledger.high may.answer
+
+  pub next_left : (write : writes.Write) → entry.reply ≡ replies.Granted write → IsNextGrant now write (get_or accounts inverter otherwise)
+  next_left write grants = granted_next book entry now inverter (get_or accounts inverter otherwise) write (ledger.of_inverters.each inverter otherwise within) is may.at_once may.answer grants
+
+-- no account has more than so many live writes
+pub few_live : (book : BookRecord) (now : ℕ) (accounts : List Account) (cap : ℕ) (stopped : Bool) → IsLedger book now accounts cap stopped
+    → (inverter : ℕ) (otherwise : Account) → inverter < length accounts → length (get_or accounts inverter otherwise).live ≤ 32
+few_live book now accounts cap stopped ledger inverter otherwise within =
+    let its = ledger.of_inverters.each inverter otherwise (omega (arith, within, ledger.of_inverters.count)) in
+    omega (arith, ap (λ (ws : List writes.Write). length ws) its.live, live_few book ledger.kept now inverter ledger.later)
 
 -- what the ledger keeps of a book without entries
 pub first_ledger : (site : SiteRecord) (start : ℕ) → IsOpenable site → start ≤ MOMENT_MAX → IsLedger (empty_book site start) start (map first_account site.units) site.cap false

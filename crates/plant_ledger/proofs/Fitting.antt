@@ -1,5 +1,5 @@
 -- A reply fits its call, and the account has room for it.
-use Rattle.std.proofs.Common.{◌≡◌, ℕ, ◌<◌, ◌≤◌, not, ◌||◌, eqb, leb, ltb, length, List, refl, sym, ap, subst, ◌∙◌, arith, inl, inr}
+use Rattle.std.proofs.Common.{◌≡◌, ℕ, ◌+◌, ◌<◌, ◌≤◌, not, ◌||◌, eqb, leb, ltb, length, List, refl, sym, ap, subst, ◌∙◌, arith, inl, inr}
 use Rattle.std.specs.Prelude.{Option, Some}
 use Rattle.std.specs.List.{list_any}
 use Rattle.std.proofs.lemmas.Bool.{cases_Bool, leb-false}
@@ -18,16 +18,17 @@ use Rattle.plant_book.specs.Requests.{link_number, requests, pending_read}
 use Rattle.plant_book.specs.Writes.{is_numbered, live}
 use Rattle.plant_book.specs.Reserved.{unreserved_at}
 use Rattle.plant_book.specs.Policy.{target_at}
-use Rattle.plant_book.specs.Answer.{reply_to, reply_to_ask, reply_by_policy, reply_by_watts, reply_to_read, reply_to_saw, reply_to_back, reply_to_cap, raise_at, silent_until, is_pending, is_raw_of, reply_to_sight}
+use Rattle.plant_book.specs.Answer.{reply_to, reply_to_ask, reply_by_policy, reply_by_watts, reply_to_read, reply_to_saw, reply_to_back, reply_to_cap, raise_at, write_at, silent_until, is_pending, is_raw_of, reply_to_sight}
 use Rattle.plant_book.specs.Answered.{IsAnswer}
 use Rattle.plant_book.proofs.Granting.{granted_is_covered}
 use Rattle.uncertain_writes.proofs.Replies.{by_cond}
+use Rattle.plant_ledger.proofs.Standing.{IsNextGrant}
 use Rattle.plant_ledger.specs.Account.{Account}
 use Rattle.plant_ledger.specs.Account.{IsAccount, IsReplyTo, HasRoom}
 
 -- a request is numbered by a call of its kind and its inverter, of which the link has requests left
 abbrev Fits : BookRecord → Call → Reply → Type 0
-Fits book (calls.Ask at inverter raw) (replies.Granted write) = (write.inverter ≡ inverter) × (requests inverter book.entries < REQUESTS_MAX)
+Fits book (calls.Ask at inverter raw) (replies.Granted write) = (write ≡ write_at book at inverter raw) × (requests inverter book.entries < REQUESTS_MAX)
 Fits book (calls.Read at inverter) (replies.ReadAs read) = (read.inverter ≡ inverter) × (requests inverter book.entries < REQUESTS_MAX)
 Fits book call (replies.Granted write) = ⊥
 Fits book call (replies.ReadAs read) = ⊥
@@ -109,7 +110,7 @@ fits book (calls.Stop at) = tt
 fits book (calls.Cap at watts) = fits_cap book at watts
 
 reply_fits : (book : BookRecord) (call : Call) (reply : Reply) → Fits book call reply → IsReplyTo call reply
-reply_fits book (calls.Ask at inverter raw) (replies.Granted write) is = is.0
+reply_fits book (calls.Ask at inverter raw) (replies.Granted write) is = ap (λ (w : writes.Write). w.inverter) is.0
 reply_fits book (calls.Read at inverter) (replies.ReadAs read) is = is.0
 reply_fits book call (replies.Granted write) is = absurd is
 reply_fits book call (replies.ReadAs read) is = absurd is
@@ -125,9 +126,10 @@ room_by : (book : BookRecord) (now inverter : ℕ) (account : Account) (call : C
     → moment call ≡ now → now ≤ MOMENT_MAX → reply ≡ reply_to book call → Fits book call reply → HasRoom reply account
 room_by book now inverter account (calls.Ask at other raw) (replies.Granted write) its is same high answer fit =
     let own : other ≡ inverter = some_is other inverter is in
+    let asked : write.inverter ≡ other = ap (λ (w : writes.Write). w.inverter) fit.0 in
     let covered = granted_is_covered book (calls.Ask at other raw) write (sym answer) in
-    let count : requests write.inverter book.entries < REQUESTS_MAX = subst (λ (i : ℕ). requests i book.entries < REQUESTS_MAX) (sym fit.0) fit.1 in
-    let whose : write.inverter ≡ inverter = fit.0 ∙ own in
+    let count : requests write.inverter book.entries < REQUESTS_MAX = subst (λ (i : ℕ). requests i book.entries < REQUESTS_MAX) (sym asked) fit.1 in
+    let whose : write.inverter ≡ inverter = asked ∙ own in
     let left : requests inverter book.entries < REQUESTS_MAX = subst (λ (i : ℕ). requests i book.entries < REQUESTS_MAX) whose count in
     let room : length (live book.site.rules book.entries now inverter) < 32 =
     subst (λ (n : ℕ). length (live book.site.rules book.entries n inverter) < 32) same (subst (λ (i : ℕ). length (live book.site.rules book.entries at i) < 32) whose covered.room) in
@@ -143,3 +145,20 @@ pub has_room : (book : BookRecord) (entry : Entry) (now inverter : ℕ) (account
     → moment entry.call ≡ now → now ≤ MOMENT_MAX → IsAnswer book book.entries entry → HasRoom entry.reply account
 has_room book entry now inverter account its is same high answer =
     room_by book now inverter account entry.call entry.reply its is same high answer (subst (λ (reply : Reply). Fits book entry.call reply) (sym answer) (fits book entry.call))
+
+next_by : (book : BookRecord) (now inverter : ℕ) (account : Account) (call : Call) (write : writes.Write) → IsAccount book now inverter account → named call ≡ Some inverter
+    → moment call ≡ now → Fits book call (replies.Granted write) → IsNextGrant now write account
+next_by book now inverter account (calls.Ask at other raw) write its is same fit =
+    let own : other ≡ inverter = some_is other inverter is in
+    record {
+      link = ap (λ (w : writes.Write). w.link) fit.0 ∙ ap (λ (i : ℕ). link_number i book.entries) own ∙ sym its.link;
+      number = ap (λ (w : writes.Write). w.number) fit.0 ∙ ap (λ (i : ℕ). requests i book.entries + 1) own ∙ ap (λ (n : ℕ). n + 1) (sym its.requests);
+      at = ap (λ (w : writes.Write). w.at) fit.0 ∙ same;
+    }
+next_by book now inverter account call write its is same fit = absurd fit
+
+-- a granted write has the next number of the account's link
+pub granted_next : (book : BookRecord) (entry : Entry) (now inverter : ℕ) (account : Account) (write : writes.Write) → IsAccount book now inverter account → named entry.call ≡ Some inverter
+    → moment entry.call ≡ now → IsAnswer book book.entries entry → entry.reply ≡ replies.Granted write → IsNextGrant now write account
+granted_next book entry now inverter account write its is same answer grants =
+    next_by book now inverter account entry.call write its is same (subst (λ (reply : Reply). Fits book entry.call reply) (sym answer ∙ grants) (fits book entry.call))

@@ -9,3 +9,4 @@ pub mod Steps
 pub mod Running
 pub mod Reaching
 pub mod Queued
+pub mod Standing

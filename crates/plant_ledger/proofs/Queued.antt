@@ -17,44 +17,26 @@ use Rattle.plant_book.specs.Calls.{named}
 use Rattle.plant_book.specs.declared.book.Entry.{Entry}
 use Rattle.revert_timers.specs.declared.expiries.Due.{Due}
 use Rattle.revert_timers.specs.Expiries.{first_past}
+use Rattle.revert_timers.specs.Expiries as dues
 use Rattle.uncertain_writes.specs.Live.{is_past}
 use Rattle.uncertain_writes.proofs.Lists.{filter-filter}
 use Rattle.plant_ledger.specs.Account.{Account, AreFrom, after_call}
 use Rattle.plant_ledger.specs.Ledger.{account_at}
-use Rattle.plant_ledger.specs.Queue.{is_due, IsQueued, AreQueued}
+use Rattle.plant_ledger.specs.Queue.{is_due, HavePlaces}
 
 -- what the elements that pass have by the test too
 all_filter : {X : Type 0} (p : X → Bool) (P Q : X → Type 0) → ((x : X) → p x ≡ true → P x → Q x) → (xs : List X) → All P xs → All Q (filter p xs)
 all_filter p P Q also xs all = λ k d within. also _ (filter_passes p xs k d within) (All-filter p P xs all k d within)
 
--- what holds of the live writes of an account, and of a write that is granted, holds of those that it has next
-pub all_after : (P : writes.Write → Type 0) (rules : Rules) (call : Call) (reply : Reply) (account : Account) → All P account.live
-    → ((write : writes.Write) → reply ≡ replies.Granted write → P write) → All P (after_call rules call reply account).live
-all_after P rules (calls.Link at inverter) reply account all new = all
-all_after P rules (calls.Ask at inverter raw) (replies.Granted write) account all new = All-push P account.live write all (new write refl)
-all_after P rules (calls.Ask at inverter raw) _ account all new = all
-all_after P rules (calls.Read at inverter) (replies.ReadAs read) account all new = all
-all_after P rules (calls.Read at inverter) _ account all new = all
-all_after P rules (calls.Saw at inverter number raw) (replies.Freed count reserved) account all new = All-filter _ P account.live all
-all_after P rules (calls.Saw at inverter number raw) (replies.Strange seen) account all new = all
-all_after P rules (calls.Saw at inverter number raw) _ account all new = all
-all_after P rules (calls.Back at inverter link number) replies.Taken account all new = All-filter _ P account.live all
-all_after P rules (calls.Back at inverter link number) _ account all new = all
-all_after P rules (calls.Want at inverter mw) reply account all new = all
-all_after P rules (calls.Tick at) reply account all new = all
-all_after P rules (calls.Stop at) reply account all new = all
-all_after P rules (calls.Cap at mw) reply account all new = all
-
 -- a write that has its place in a queue has it in the queue without another's
-module _ (rules : Rules) (now : ℕ) (due : Due) (rest : List Due) (unqueued inverter : ℕ) (write : writes.Write) where
-  behind : is_due rules inverter write due ≡ false → IsQueued rules (due ∷ rest) unqueued inverter write → IsQueued rules rest unqueued inverter write
-  behind other (inl since) = inl since
-  behind other (inr found) = inr (sym (ap (λ (b : Bool). b || list_any (is_due rules inverter write) rest) other) ∙ found)
+module _ (rules : Rules) (now : ℕ) (due : Due) (rest : List Due) (inverter : ℕ) (write : writes.Write) where
+  behind : is_due rules inverter write due ≡ false → list_any (is_due rules inverter write) (due ∷ rest) ≡ true → list_any (is_due rules inverter write) rest ≡ true
+  behind other found = sym (ap (λ (b : Bool). b || list_any (is_due rules inverter write) rest) other) ∙ found
 
-  pub behind_other : due.inverter ≢ inverter → IsQueued rules (due ∷ rest) unqueued inverter write → IsQueued rules rest unqueued inverter write
+  pub behind_other : due.inverter ≢ inverter → list_any (is_due rules inverter write) (due ∷ rest) ≡ true → list_any (is_due rules inverter write) rest ≡ true
   behind_other apart is = behind (ap (λ (b : Bool). b && eqb due.last (last_moment rules write.at)) (ne_eqb due.inverter inverter apart)) is
 
-  pub behind_past : due.last < now → not (is_past rules now write) ≡ true → IsQueued rules (due ∷ rest) unqueued inverter write → IsQueued rules rest unqueued inverter write
+  pub behind_past : due.last < now → not (is_past rules now write) ≡ true → list_any (is_due rules inverter write) (due ∷ rest) ≡ true → list_any (is_due rules inverter write) rest ≡ true
   behind_past past stays is =
       elim (cases_Bool (is_due rules inverter write due)) [
         | inl its ↦
@@ -108,19 +90,18 @@ module _ (rules : Rules) (now place : ℕ) (accounts others : List Account) (cou
         | inr le ↦ ap (λ (all : List Account). get_or all inverter otherwise) (same le)
       ]
 
-  pub queued_next : (due : Due) (rest : List Due) (unqueued : ℕ) → due.inverter ≡ place → due.last < now → AreQueued rules (due ∷ rest) unqueued accounts
-      → AreQueued rules rest unqueued others
-  queued_next due rest unqueued at past queued inverter otherwise within =
+  pub places_next : (due : Due) (rest : List Due) → due.inverter ≡ place → due.last < now → HavePlaces rules (due ∷ rest) accounts → HavePlaces rules rest others
+  places_next due rest at past queued inverter otherwise within =
       let below : inverter < length accounts = omega (arith, within, count) in
       let old = queued inverter otherwise below in
       let its = (get_or accounts inverter otherwise).live in
-      let P = IsQueued rules (due ∷ rest) unqueued inverter in
-      let Q = IsQueued rules rest unqueued inverter in
+      let P : writes.Write → Type 0 = λ write. list_any (is_due rules inverter write) (due ∷ rest) ≡ true in
+      let Q : writes.Write → Type 0 = λ write. list_any (is_due rules inverter write) rest ≡ true in
       elim (cases_eq inverter place) [
         | inl is ↦ subst (λ (account : Account). All Q account.live) (sym (expired_own inverter otherwise is below))
-            (all_filter (λ (write : writes.Write). not (is_past rules now write)) P Q (λ write stays was. behind_past rules now due rest unqueued inverter write past stays was) its old)
+            (all_filter (λ (write : writes.Write). not (is_past rules now write)) P Q (λ write stays was. behind_past rules now due rest inverter write past stays was) its old)
         | inr apart ↦ subst (λ (account : Account). All Q account.live) (sym (expired_other inverter otherwise apart))
-            (All-weaker P Q (λ write was. behind_other rules now due rest unqueued inverter write (λ is. apart (sym is ∙ at)) was) its old)
+            (All-weaker P Q (λ write was. behind_other rules now due rest inverter write (λ is. apart (sym is ∙ at)) was) its old)
       ]
 
 -- what is taken from the front of a queue is past
@@ -144,57 +125,19 @@ last_of rules now inverter write (due ∷ rest) found later =
           (All-tail (λ (d : Due). now ≤ d.last) due rest later)
     ]
 
-pub queued_from : (rules : Rules) (now oldest unqueued : ℕ) (queue : List Due) (accounts : List Account) → AreQueued rules queue unqueued accounts
-    → All (λ due. now ≤ due.last) queue → now ≤ unqueued + reach rules → oldest + reach rules ≤ now ⊎ (oldest ≡ 0) → All (λ account. AreFrom oldest account.live) accounts
-queued_from rules now oldest unqueued queue accounts queued later since low =
+pub queued_from : (rules : Rules) (now oldest : ℕ) (queue : List Due) (accounts : List Account) → HavePlaces rules queue accounts
+    → All (λ due. now ≤ due.last) queue → oldest + reach rules ≤ now ⊎ (oldest ≡ 0) → All (λ account. AreFrom oldest account.live) accounts
+queued_from rules now oldest queue accounts queued later low =
     λ inverter otherwise within.
-    All-weaker (IsQueued rules queue unqueued inverter) (λ (write : writes.Write). oldest ≤ write.at) (λ write is. from inverter write is low)
+    All-weaker (λ (write : writes.Write). list_any (is_due rules inverter write) queue ≡ true) (λ (write : writes.Write). oldest ≤ write.at) (λ write is. from inverter write is low)
     (get_or accounts inverter otherwise).live (queued inverter otherwise within)
   where
-    from : (inverter : ℕ) (write : writes.Write) → IsQueued rules queue unqueued inverter write → oldest + reach rules ≤ now ⊎ (oldest ≡ 0) → oldest ≤ write.at
+    from : (inverter : ℕ) (write : writes.Write) → list_any (is_due rules inverter write) queue ≡ true → oldest + reach rules ≤ now ⊎ (oldest ≡ 0) → oldest ≤ write.at
     from inverter write is (inr zero) = omega (arith, zero)
-    from inverter write (inl over) (inl bound) = omega (arith, over, bound, since)
-    from inverter write (inr found) (inl bound) = omega (arith, bound, last_of rules now inverter write queue found later)
+    from inverter write found (inl bound) = omega (arith, bound, last_of rules now inverter write queue found later)
 
--- writes that are all no older than a moment need no queue
-pub queued_all : (rules : Rules) (queue : List Due) (oldest : ℕ) (accounts : List Account) → All (λ account. AreFrom oldest account.live) accounts → AreQueued rules queue oldest accounts
-queued_all rules queue oldest accounts from inverter otherwise within =
-    All-weaker (λ (write : writes.Write). oldest ≤ write.at) (IsQueued rules queue oldest inverter) (λ write at. inl at) (get_or accounts inverter otherwise).live (from inverter otherwise within)
-
--- the writes after one more entry have their places where its own has
-module _ (rules : Rules) (entry : Entry) (accounts others : List Account) (queue after : List Due) (unqueued result : ℕ) (count : length others ≡ length accounts)
-    (kept : (inverter : ℕ) (write : writes.Write) → IsQueued rules queue unqueued inverter write → IsQueued rules after result inverter write)
-    (granted : (inverter : ℕ) (write : writes.Write) → named entry.call ≡ Some inverter → entry.reply ≡ replies.Granted write → IsQueued rules after result inverter write)
-    (follows : (inverter : ℕ) (otherwise : Account) → named entry.call ≡ Some inverter
-    → others ≡ slice_set accounts inverter (after_call rules entry.call entry.reply (get_or accounts inverter otherwise)))
-    (stays : named entry.call ≡ None → others ≡ accounts) (queued : AreQueued rules queue unqueued accounts) where
-  old_queued : (inverter : ℕ) (otherwise : Account) → inverter < length accounts → All (IsQueued rules after result inverter) (get_or accounts inverter otherwise).live
-  old_queued inverter otherwise within =
-      All-weaker (IsQueued rules queue unqueued inverter) (IsQueued rules after result inverter) (λ write was. kept inverter write was) (get_or accounts inverter otherwise).live (queued inverter otherwise within)
-
-  entered_by : (name : Option ℕ) → named entry.call ≡ name → AreQueued rules after result others
-  entered_by None is inverter otherwise within =
-      subst (λ (all : List Account). All (IsQueued rules after result inverter) (get_or all inverter otherwise).live) (sym (stays is)) (old_queued inverter otherwise (omega (arith, within, count)))
-  entered_by (Some place) is inverter otherwise within =
-      let below : inverter < length accounts = omega (arith, within, count) in
-      let next = λ (i : ℕ). after_call rules entry.call entry.reply (get_or accounts i otherwise) in
-      let old = old_queued inverter otherwise below in
-      elim (cases_eq inverter place) [
-        | inl own ↦ subst (λ (account : Account). All (IsQueued rules after result inverter) account.live)
-            (sym (
-            ap (λ (all : List Account). get_or all inverter otherwise) (follows place otherwise is)
-            ∙ ap (λ (i : ℕ). get_or (slice_set accounts place (next place)) i otherwise) own
-            ∙ get_or-set_same accounts place (next place) otherwise (omega (arith, own, below))
-            ∙ ap next (sym own)
-            ))
-            (all_after (IsQueued rules after result inverter) rules entry.call entry.reply (get_or accounts inverter otherwise) old (λ write is_granted. granted inverter write (is ∙ ap some (sym own)) is_granted))
-        | inr apart ↦ subst (λ (account : Account). All (IsQueued rules after result inverter) account.live)
-            (sym (ap (λ (all : List Account). get_or all inverter otherwise) (follows place otherwise is) ∙ get_or-set_other accounts place inverter (next place) otherwise apart))
-            old
-      ]
-    where
-      some : ℕ → Option ℕ
-      some i = Some i
-
-  pub queued_entered : AreQueued rules after result others
-  queued_entered = entered_by (named entry.call) refl
+-- an entry at the front that is past isn't among those that stay
+pub behind_front : (now : ℕ) (due : Due) (rest queue : List Due) → queue ≡ due ∷ rest → due.last < now
+    → filter (λ d. not (dues.is_past now d)) rest ≡ filter (λ d. not (dues.is_past now d)) queue
+behind_front now due rest queue is past =
+    sym (ap (filter (λ (d : Due). not (dues.is_past now d))) is ∙ ap (λ (b : Bool). cond (not b) (due ∷ filter (λ (d : Due). not (dues.is_past now d)) rest) (filter (λ (d : Due). not (dues.is_past now d)) rest)) (lt-ltb due.last now past))

@@ -97,7 +97,7 @@ pub record Keeps (part : PartRecord) (now : ℕ) (accounts : List Account) (clai
   pub level : IsLevel cap accounts together.level
   pub fall : IsFallLevel cap part.site together.fall
   pub set : EachBook part (λ whole. together.set ≡ mark_of whole)
-  pub queued : AreQueued part.site.rules queue together.unqueued accounts
+  pub queued : AreQueued part.site.rules now queue accounts
 
 -- an account at a later moment: what is past by then is gone
 abbrev pub account_at : Rules → ℕ → Account → Account

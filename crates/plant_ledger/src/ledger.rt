@@ -1,6 +1,5 @@
 //! A book, and the account of each inverter.
 ghost use Rattle.std.specs.Prelude.{◌≡◌, ℕ, ◌<◌, ◌≤◌, ◌^◌, nat_le, ◌||◌, ◌⊎◌, if◌then◌else◌, [], ◌∷◌, ◌++◌, length, map, Some, None, IfOk, IfErr, IfSome, OnOk, OnErr, slice_get, slice_set, slice_index_or};
-ghost use Rattle.limiter_num.specs.Timers as timers;
 ghost use Rattle.plant_book.specs.Site.{inverters, floors, full_at, mw_at};
 ghost use Rattle.plant_book.specs.Caps.{sets_cap, cap_by, cap_of};
 ghost use Rattle.plant_book.specs.Calls.{moment, named};
@@ -13,12 +12,12 @@ ghost use Rattle.plant_book.specs.Part.{begin_of, calls_of, book_behind};
 ghost use Rattle.plant_book.specs.Carry.{mark_of, units_of, IsBookPart, EachBefore, EachBook};
 ghost use Rattle.plant_ledger.specs.Account.{Account as Kept};
 ghost use Rattle.plant_ledger.specs.Account.{IsAccount, HasRoom, after_call, claim_by};
-ghost use Rattle.plant_ledger.specs.Ledger.{IsUnit, IsAtLast, AreSums, IsLevel, account_at};
+ghost use Rattle.plant_ledger.specs.Ledger.{IsUnit, IsAtLast, AreSums, IsLevel};
 ghost use Rattle.plant_ledger.specs.Plant.{with_one, Rolls, IsFullLife};
 
 use crate::account::Account;
 use crate::lists::{claims_by, first_accounts, units_by};
-use crate::queue::{expire_due, queue_grant};
+use crate::queue::{expire_due, follow_queue};
 use crate::rolling::{RollFault, next_book};
 use crate::sums::{Sums, gather};
 use limiter_num::{NoMemory, Rules};
@@ -100,24 +99,15 @@ impl Ledger {
             return;
         }
         let rules = rules_of(&self.book);
-        if now <= self.sums.unqueued.saturating_add(reach) {
-            expire_due(
-                &mut self.accounts,
-                &mut self.expiries,
-                &mut self.sums,
-                &rules,
-                reach,
-                now,
-            );
-            self.sums.oldest = now.saturating_sub(reach);
-            self.moment = now;
-            return;
-        }
-        expire(&mut self.accounts, &rules, reach, now);
-        let sums = gather(&self.accounts);
-        self.sums.total = sums.total;
-        self.sums.oldest = sums.oldest;
-        self.sums.unqueued = sums.oldest;
+        expire_due(
+            &mut self.accounts,
+            &mut self.expiries,
+            &mut self.sums,
+            &rules,
+            reach,
+            now,
+        );
+        self.sums.oldest = now.saturating_sub(reach);
         self.moment = now;
     }
 
@@ -132,6 +122,13 @@ impl Ledger {
         ensures { self.new ≡ record { book = with_one self.old.book entry; at = self.old.at } }
     {
         let rules = rules_of(&self.book);
+        follow_queue(
+            &mut self.expiries,
+            &self.accounts,
+            &rules,
+            self.reach,
+            &entry,
+        );
         follow(
             &mut self.accounts,
             &mut self.claims,
@@ -142,12 +139,6 @@ impl Ledger {
         let cap = cap_after(self.cap, &entry);
         self.sums.under(self.cap, cap);
         self.sums.mark(&entry);
-        self.sums.unqueued = queue_grant(
-            &mut self.expiries,
-            self.sums.unqueued,
-            self.reach,
-            &entry,
-        );
         self.cap = cap;
         self.stopped = is_stopped_after(self.stopped, &entry.call);
         self.book.push(entry);
@@ -393,16 +384,6 @@ fn unit_of(book: &Book, inverter: u8) -> &Unit
     &site.units[usize::from(inverter)]
 }
 
-/// Drops the writes of all accounts that are past by this moment. It and how long a write may be held are in ms.
-fn expire(accounts: &mut [Account], rules: &Rules, reach: u64, now: u64)
-    requires { reach ≡ timers.reach rules.now }
-    ensures { accounts.new ≡ map (account_at rules.now now) accounts.old }
-{
-    for account in accounts.iter_mut() {
-        account.expire(rules, reach, now);
-    }
-}
-
 /// The account of the inverter that one more entry names follows it, and so do its claim and the numbers of all
 /// accounts.
 fn follow(
@@ -431,7 +412,6 @@ fn follow(
         → IsLevel cap accounts.new sums.new.level }
     ensures fall { sums.new.fall ≡ sums.old.fall }
     ensures set { sums.new.set ≡ sums.old.set }
-    ensures unqueued { sums.new.unqueued ≡ sums.old.unqueued }
 {
     let Some(inverter) = entry.call.inverter() else {
         return;

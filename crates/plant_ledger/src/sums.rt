@@ -17,8 +17,6 @@ pub struct Sums {
     pub oldest: u64,
     /// What is known of the level of the fair shares.
     pub level: Known,
-    /// A moment in ms before which no live write was granted that isn't in the queue.
-    pub unqueued: u64,
     /// The level of the fall shares in mW, where it was made since the cap changed.
     pub fall: Option<u64>,
     /// The last Cap that was set.
@@ -34,7 +32,6 @@ impl Sums {
         ensures fall { (site : SiteRecord) → IsFallLevel old site self.old.fall
             → IsFallLevel new site self.new.fall }
         ensures set { self.new.set ≡ self.old.set }
-        ensures unqueued { self.new.unqueued ≡ self.old.unqueued }
     {
         if old == new {
             return;
@@ -49,7 +46,6 @@ impl Sums {
         ensures level { self.new.level ≡ self.old.level }
         ensures fall { self.new.fall ≡ self.old.fall }
         ensures set { self.new.set ≡ mark_after self.old.set entry.now self.old.total }
-        ensures unqueued { self.new.unqueued ≡ self.old.unqueued }
     {
         match (&entry.call, &entry.reply) {
             (Call::Cap { at, .. }, Reply::CapSet { .. }) => {
@@ -71,7 +67,6 @@ pub fn gather(accounts: &[Account]) -> Sums
     ensures probe { result.level.probe ≡ None }
     ensures fall { result.fall ≡ None }
     ensures set { result.set ≡ None }
-    ensures unqueued { result.unqueued ≡ result.oldest }
 {
     let mut total = 0;
     let mut oldest = u64::MAX;
@@ -83,7 +78,6 @@ pub fn gather(accounts: &[Account]) -> Sums
         total,
         oldest,
         level: Known::nothing(),
-        unqueued: oldest,
         fall: None,
         set: None,
     }

@@ -40,12 +40,12 @@ fn ask(rt: &impl Abort, lives: &mut Lives, at: u64) -> Option<Reply> {
 }
 
 #[test]
-fn an_ended_life_hands_its_book_back(rt: HostRuntime) -> Result<(), Fail> {
+fn a_restart_at_the_last_moment_hands_the_book_back(rt: HostRuntime) -> Result<(), Fail> {
     let mut lives = begun(rt.alloc()).ok_or("begin")?;
     assert_eq!(rt; link(&rt, &mut lives, 66_701), Some(Reply::Linked(1)));
     let early = lives.restart(rt.alloc(), 66_700);
     assert!(rt; matches!(early, Err(RestartFault::TimeBack(66_701))));
-    let ended = lives.restart(rt.alloc(), 80_000).ok().ok_or("restart")?;
+    let ended = lives.restart(rt.alloc(), 66_701).ok().ok_or("restart")?;
     assert_eq!(rt; (ended.calls(), lives.plant().calls()), (1, 0));
     Ok(())
 }

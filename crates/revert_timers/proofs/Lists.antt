@@ -1,5 +1,5 @@
 -- What a list has left without the first entry that a test finds.
-use Rattle.std.proofs.Common.{◌≡◌, ℕ, suc, ◌+◌, ◌-◌, ◌≤◌, ◌<◌, Bool, true, false, cond, not, ◌||◌, ltb, List, [], ◌∷◌, ◌++◌, length, take, drop, get_or, Some, None, refl, sym, ◌∙◌, ap, arith, inl, inr}
+use Rattle.std.proofs.Common.{◌≡◌, ℕ, suc, ◌+◌, ◌≤◌, ◌<◌, Bool, true, false, cond, not, ◌||◌, ltb, List, [], ◌∷◌, ◌++◌, length, take, drop, get_or, Some, None, refl, sym, ◌∙◌, ap, arith, inl, inr}
 use Rattle.std.specs.Prelude.{filter}
 use Rattle.std.specs.List.{list_any, position, position_or_len, remove, All}
 use Rattle.std.proofs.lemmas.Bool.{cases_lt, ltb-true, le-ltb, lt-ltb}
@@ -149,17 +149,5 @@ later_than_first now x entries rising is current =
       ap (λ (due : Due). due.last) is,
       rising 0 k x (omega arith) h,
       current,
-      ap (λ (due : Due). due.last) (get_or_default entries k d x h),
-    )
-
--- where the last entry isn't above a moment, none is
-pub none_above_last : (last : ℕ) (x : Due) (entries : List Due) → IsRising entries → x ≡ get_or entries (length entries - 1) x → x.last ≤ last
-    → All (λ due. due.last ≤ last) entries
-none_above_last last x entries rising is low =
-    λ k d h. omega (
-      arith,
-      ap (λ (due : Due). due.last) is,
-      rising k (length entries - 1) x (omega arith) (omega arith),
-      low,
       ap (λ (due : Due). due.last) (get_or_default entries k d x h),
     )

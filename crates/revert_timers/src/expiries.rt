@@ -1,5 +1,5 @@
 //! The queue of writes in the order of their last moments.
-ghost use Rattle.std.specs.Prelude.{◌≡◌, ◌≤◌, ◌<◌, ◌↔◌, IsTrue, false, [], ◌∷◌, ◌++◌, length, IfOk, None};
+ghost use Rattle.std.specs.Prelude.{◌≡◌, ◌≤◌, ◌<◌, [], ◌∷◌, ◌++◌, length, IfOk, None};
 ghost use Rattle.std.specs.List.{All, list_any, position};
 ghost use Rattle.std.specs.Option.{option_to_list};
 ghost use Rattle.revert_timers.specs.Expiries.{expiries_max, IsRising, has_numbers, without_first, first_past};
@@ -78,30 +78,11 @@ impl Expiries {
         self.entries.push_back_reserved(due);
     }
 
-    /// Puts a write behind the others, where there is room and none of them has a later last moment. Answers whether it
-    /// did.
-    pub fn try_add(&mut self, due: Due) -> bool
-        ensures taken { IsTrue result
-            ↔ ((length self.old < expiries_max) × All (λ other. other.last ≤ due.last) self.old) }
-        ensures added { IsTrue result → self.new ≡ self.old ++ due ∷ [] }
-        ensures refused { result ≡ false → self.new ≡ self.old }
+    /// How many writes the queue has.
+    pub fn len(&self) -> usize
+        ensures { result ≡ length self.now }
     {
-        if !self.takes(due.last) {
-            return false;
-        }
-        self.add(due);
-        true
-    }
-
-    /// Whether a write of this last moment, in ms, may be put behind the others.
-    fn takes(&self, last: u64) -> bool
-        ensures { IsTrue result
-            ↔ ((length self.now < expiries_max) × All (λ other. other.last ≤ last) self.now) }
-    {
-        match self.entries.back() {
-            Some(due) => self.entries.len() < EXPIRIES_MAX && due.last <= last,
-            None => true,
-        }
+        self.entries.len()
     }
 
     /// Takes out the write of these numbers, and answers whether it was there. Of several the first goes, which

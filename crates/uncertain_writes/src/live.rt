@@ -131,6 +131,13 @@ impl Live {
         freed(self.writes.kept(), rules, read, raw)
     }
 
+    /// The writes that the read frees where it showed this raw percentage.
+    pub fn freed_by(&self, rules: &Rules, read: &Read, raw: u16) -> ArrayVec<Write, LIVE_MAX>
+        ensures { result.items ≡ filter (frees rules.now (Some read.now) raw) self.now }
+    {
+        freed_by(self.writes.kept(), rules, read, raw)
+    }
+
     /// The greatest limit in mW of the writes that are left then, or 0 where there is none.
     pub fn greatest_left(&self, rating: &Rating, rules: &Rules, read: &Read, raw: u16) -> u64
         ensures watts { result ≡ fold max 0 (map (λ write. mw rating.now write.raw)
@@ -183,7 +190,7 @@ impl Live {
         writes(self.writes.kept())
     }
 
-    /// The earliest moment of a write of the list in ms, or the greatest number where there is none.
+    /// A moment in ms before which no write of the list was granted.
     pub fn oldest(&self) -> u64
         ensures { All (λ write. result ≤ write.at) self.now }
     {
@@ -253,6 +260,19 @@ fn freed(writes: &[Kept], rules: &Rules, read: &Read, raw: u16) -> u8
     count
 }
 
+fn freed_by(writes: &[Kept], rules: &Rules, read: &Read, raw: u16) -> ArrayVec<Write, LIVE_MAX>
+    requires { length writes.now ≤ live_max }
+    ensures { result.items ≡ filter (frees rules.now (Some read.now) raw) writes.now }
+{
+    let mut found = ArrayVec::new();
+    for kept in writes {
+        if kept.is_freed_by(rules, read, raw) {
+            found.push(kept.write());
+        }
+    }
+    found
+}
+
 fn greatest_left(writes: &[Kept], rating: &Rating, rules: &Rules, read: &Read, raw: u16) -> u64
     ensures watts { result ≡ fold max 0 (map (λ write. mw rating.now write.raw)
         (without (frees rules.now (Some read.now) raw) writes.now)) }
@@ -284,8 +304,7 @@ fn writes(kept: &[Kept]) -> ArrayVec<Write, LIVE_MAX>
     writes
 }
 
-/// The earliest moment of the writes in ms, or the greatest number where there is none. Where they rise, it is that of
-/// the first.
+/// A moment in ms before which none of the writes was granted: where they rise, that of the first.
 fn oldest(writes: &[Kept], rising: bool) -> u64
     requires { IsTrue rising → AreInOrder writes.now }
     ensures { All (λ write. result ≤ write.at) writes.now }
@@ -296,7 +315,7 @@ fn oldest(writes: &[Kept], rising: bool) -> u64
     }
 }
 
-/// The earliest moment of the writes in ms, or the greatest number where there is none.
+/// The same of writes in any order: no write is below it.
 fn least_moment(writes: &[Kept]) -> u64
     ensures { All (λ write. result ≤ write.at) writes.now }
 {

@@ -19,6 +19,6 @@ returns-clause-sums c =
     let from : AreFrom sums.oldest new.live = subst (λ (account : Account). AreFrom sums.oldest account.live) (sym c.expire.ensures)
     (All-filter (λ (write : writes.Write). not (is_past c.args.rules.now c.args.now write)) (λ (write : writes.Write). sums.oldest ≤ write.at) (get_or accounts c.args.place old).live (c.requires.sums.oldest c.args.place old within)) in
     sums_next accounts sums c.requires.sums c.args.place within new old
-    (record { total = sums.total - c.reserved-reserved.result + c.reserved.result; oldest = sums.oldest; level = sums.level; unqueued = sums.unqueued; fall = sums.fall; set = sums.set })
+    (record { total = sums.total - c.reserved-reserved.result + c.reserved.result; oldest = sums.oldest; level = sums.level; fall = sums.fall; set = sums.set })
     (omega (arith, c.reserved.ensures.watts, c.reserved.ensures.below)) from (omega arith)
     (omega (arith, c.reserved.ensures.watts, c.reserved-reserved.ensures.watts, ap (λ (account : Account). reserved_of account) c.index-accounts-place.is))

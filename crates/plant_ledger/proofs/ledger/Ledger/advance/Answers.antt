@@ -6,13 +6,14 @@ use Rattle.share_policy.specs.declared.claim.Claim.{Claim}
 use Rattle.std.proofs.lemmas.Bool.{cases_lt}
 use Rattle.plant_ledger.specs.Account.{Account, claim_by}
 use Rattle.plant_ledger.specs.Ledger.{LedgerRecord, AreSums, IsFallLevel, Keeps, account_at}
-use Rattle.plant_ledger.specs.Queue.{AreQueued}
+use Rattle.plant_ledger.specs.Queue.{HavePlaces}
 use Rattle.plant_ledger.specs.Known.{IsKnown}
 use Rattle.plant_ledger.specs.declared.known.Known.{Known}
 use Rattle.plant_book.specs.declared.carry.CapMark.{CapMark}
 use Rattle.plant_book.specs.Carry.{mark_of, EachBook}
 use Rattle.plant_ledger.proofs.Accounts.{whole, later_of}
-use Rattle.plant_ledger.proofs.Queued.{queued_all, queued_from}
+use Rattle.plant_ledger.proofs.Queued.{queued_from}
+use Rattle.plant_ledger.proofs.Standing.{have_places, queued_same, queued_later}
 use Rattle.plant_ledger.proofs.Running.{same_accounts_at, later_claims}
 use Rattle.plant_ledger.proofs.ledger.Ledger.advance.Goals as goal
 
@@ -34,51 +35,11 @@ invariant_of-self c =
       level = kept.level;
       fall = kept.fall;
       set = kept.set;
-      queued = kept.queued;
+      queued = queued_same rules inside.moment c.args.now inside.expiries inside.accounts.items le kept.queued;
     }
-
--- all accounts at the later moment, as the code writes them
-made : (old new got held : List Account) (len now : ℕ) (rules others : Rules) → new ≡ map (account_at rules now) held → rules ≡ others → held ≡ old → length held ≡ len
-    → got ≡ take len (new ++ drop (length new) old) → got ≡ map (account_at others now) old
-made old new got held len now rules others is same holds count written =
-    let all : new ≡ map (account_at others now) old = is ∙ ap (λ (r : Rules). map (account_at r now) held) same ∙ ap (map (account_at others now)) holds in
-    let long : length new ≡ len = omega (arith, ap (λ (list : List Account). length list) is, length-map held (account_at rules now), count) in
-    written ∙ whole new old len long ∙ all
-
-pub gather-sums-requires : goal.gather-sums-requires
-gather-sums-requires c =
-    let inside = c.self.inside in
-    let kept = c.self.invariant.numbers in
-    omega (arith, ap (λ (all : List Account). length all) (made c.self.inside.accounts.items c.expire.new.accounts c.deref.result.now c.deref_mut-2.result.now c.self.inside.accounts.len c.args.now c.rules_of-rules.result c.self.inside.book.site.rules c.expire.ensures c.rules_of-rules.ensures c.deref_mut-2.ensures.value c.deref_mut-2.ensures.len c.deref.ensures.value), length-map inside.accounts.items (account_at inside.book.site.rules c.args.now), kept.count, kept.of_life.behind.book.openable.few)
 
 pub invariant_of-self-2 : goal.invariant_of-self-2
 invariant_of-self-2 c =
-    let inside = c.self.inside in
-    let rules = inside.book.site.rules in
-    let kept = c.self.invariant in
-    let now = c.args.now in
-    let sums = c.gather-sums.result in
-    let le : inside.moment ≤ now = omega (arith, c.requires.later, ap (λ (l : LedgerRecord). l.at) c.self.view_is) in
-    let new = map (account_at rules now) inside.accounts.items in
-    let is = made c.self.inside.accounts.items c.expire.new.accounts c.deref.result.now c.deref_mut-2.result.now c.self.inside.accounts.len c.args.now c.rules_of-rules.result c.self.inside.book.site.rules c.expire.ensures c.rules_of-rules.ensures c.deref_mut-2.ensures.value c.deref_mut-2.ensures.len c.deref.ensures.value in
-    let its = subst (λ (all : List Account). AreSums all sums) is c.gather-sums.ensures.sums in
-    let all : Keeps inside.book now new inside.claims.items inside.expiries (record { total = sums.total; oldest = sums.oldest; level = inside.sums.level; unqueued = sums.oldest; fall = inside.sums.fall; set = inside.sums.set }) inside.cap inside.stopped inside.reach =
-    record {
-      numbers = later_of inside.book inside.moment now inside.accounts.items new inside.cap inside.stopped le c.requires.high refl kept.numbers;
-      reach_is = kept.reach_is;
-      reach_low = kept.reach_low;
-      claims_are = kept.claims_are ∙ sym (later_claims rules now inside.accounts.items);
-      sums = record { total = its.total; each = its.each; oldest = its.oldest };
-      level = subst (λ (claims : List Claim). IsKnown inside.cap claims inside.sums.level) (sym (later_claims rules now inside.accounts.items)) kept.level;
-      fall = kept.fall;
-      set = kept.set;
-      queued = queued_all rules inside.expiries sums.oldest new its.oldest;
-    } in
-    subst (λ (list : List Account). Keeps inside.book now list inside.claims.items inside.expiries (record { total = sums.total; oldest = sums.oldest; level = inside.sums.level; unqueued = sums.oldest; fall = inside.sums.fall; set = inside.sums.set }) inside.cap inside.stopped inside.reach)
-    (sym is ∙ c.deref.ensures.value) all
-
-pub invariant_of-self-then-now-saturating_add-2 : goal.invariant_of-self-then-now-saturating_add-2
-invariant_of-self-then-now-saturating_add-2 c =
     let inside = c.self.inside in
     let rules = inside.book.site.rules in
     let kept = c.self.invariant in
@@ -93,18 +54,18 @@ invariant_of-self-then-now-saturating_add-2 c =
     let le : inside.moment ≤ now = omega (arith, c.requires.later, ap (λ (l : LedgerRecord). l.at) c.self.view_is) in
     let reaches : inside.reach ≡ reach rules = kept.reach_is in
     let count : length fresh ≡ inside.accounts.len = omega (arith, c.expire_due.auto.accounts, c.deref_mut.ensures.len) in
-    let queued : AreQueued rules queue sums.unqueued fresh = subst (λ (r : Rules). AreQueued r queue sums.unqueued fresh) same_rules its.queued in
+    let places : HavePlaces rules queue fresh = subst (λ (r : Rules). HavePlaces r queue fresh) same_rules its.queued in
     let bound : oldest + reach rules ≤ now ⊎ (oldest ≡ 0) = elim (cases_lt now (reach rules)) [
       | inl lt ↦ inr (omega (arith, lt, reaches, c.saturating_sub-self-inside.ensures))
       | inr le ↦ inl (omega (arith, le, reaches, c.saturating_sub-self-inside.ensures))
     ] in
-    let from = queued_from rules now oldest sums.unqueued queue fresh queued its.none_due (omega (arith, c.if-now-saturating_add-2.true, c.saturating_add-2.ensures, reaches, its.unqueued)) bound in
+    let from = queued_from rules now oldest queue fresh places its.none_due bound in
     let at_once = same_accounts_at rules now oldest fresh (omega (arith, c.saturating_sub-self-inside.ensures, reaches)) from in
     let is : fresh ≡ map (account_at rules now) old =
     sym at_once ∙ subst (λ (r : Rules). map (account_at r now) fresh ≡ map (account_at r now) c.deref_mut.result.now) same_rules its.same ∙ ap (map (account_at rules now)) c.deref_mut.ensures.value in
     let claims : map claim_by fresh ≡ map claim_by old = ap (map claim_by) is ∙ later_claims rules now old in
     let level = subst (λ (list : List Claim). IsKnown inside.cap list inside.sums.level) (sym claims) kept.level in
-    let all : Keeps inside.book now fresh inside.claims.items queue (record { total = sums.total; oldest = oldest; level = sums.level; unqueued = sums.unqueued; fall = sums.fall; set = sums.set }) inside.cap inside.stopped inside.reach =
+    let all : Keeps inside.book now fresh inside.claims.items queue (record { total = sums.total; oldest = oldest; level = sums.level; fall = sums.fall; set = sums.set }) inside.cap inside.stopped inside.reach =
     record {
       numbers = later_of inside.book inside.moment now old fresh inside.cap inside.stopped le c.requires.high is kept.numbers;
       reach_is = kept.reach_is;
@@ -114,6 +75,13 @@ invariant_of-self-then-now-saturating_add-2 c =
       level = subst (λ (known : Known). IsKnown inside.cap (map claim_by fresh) known) (sym its.level) level;
       fall = subst (λ (made : Option ℕ). IsFallLevel inside.cap inside.book.site made) (sym its.fall) kept.fall;
       set = subst (λ (mark : Option CapMark). EachBook inside.book (λ whole. mark ≡ mark_of whole)) (sym its.set) kept.set;
-      queued = queued;
+      queued = rw (its.left, is) (queued_later rules inside.moment now inside.expiries old le kept.queued);
     } in
     rw (whole fresh old inside.accounts.len count) all
+
+pub expire_due-requires-clause-queued : goal.expire_due-requires-clause-queued
+expire_due-requires-clause-queued c =
+    let inside = c.self.inside in
+    let places = have_places inside.book.site.rules inside.moment inside.expiries inside.accounts.items c.self.invariant.queued in
+    subst (λ (all : List Account). HavePlaces c.rules_of-rules.result inside.expiries all) (sym c.deref_mut.ensures.value)
+    (subst (λ (r : Rules). HavePlaces r inside.expiries inside.accounts.items) (sym c.rules_of-rules.ensures) places)

@@ -1,19 +1,22 @@
-use Rattle.std.proofs.Common.{◌≡◌, ℕ, Option, Some, List, length, sym, subst, ap, ◌∙◌, arith}
+use Rattle.std.proofs.Common.{◌≡◌, ℕ, ◌<◌, ◌≤◌, Option, List, length, get_or, sym, subst, ap, ◌∙◌, arith}
 use Rattle.plant_book.specs.Part.{book_behind}
 use Rattle.plant_book.specs.declared.book.Entry.{Entry}
-use Rattle.plant_ledger.specs.Account.{Account}
+use Rattle.std.specs.Prelude.{IfSome}
+use Rattle.std.specs.List.{All}
+use Rattle.limiter_num.specs.declared.rules.Rules.{Rules}
+use Rattle.limiter_num.specs.Timers.{last_moment}
+use Rattle.plant_book.specs.Site.{inverters}
+use Rattle.plant_book.specs.declared.call.Reply.{Reply}
+use Rattle.plant_ledger.specs.Account.{Account, HasRoom}
 use Rattle.plant_ledger.specs.declared.known.Known.{Known}
 use Rattle.plant_ledger.specs.Ledger.{LedgerRecord, IsLevel, IsFallLevel, Keeps}
 use Rattle.plant_ledger.specs.Plant.{with_one}
 use Rattle.plant_book.specs.Reserved.{total_at}
 use Rattle.plant_book.specs.Carry.{mark_of, EachBook}
-use Rattle.plant_book.specs.declared.call.Write as writes
 use Rattle.plant_book.specs.declared.call.Reply.TheVariants as replies
-use Rattle.plant_book.specs.Calls.{named}
-use Rattle.plant_ledger.specs.Queue.{IsQueued}
-use Rattle.plant_ledger.proofs.Queued.{queued_entered}
+use Rattle.plant_ledger.proofs.Standing.{queued_entered, has_place, any_account}
 use Rattle.plant_ledger.proofs.Running.{total_is, mark_next}
-use Rattle.plant_ledger.proofs.Accounts.{MayFollow, Follow, whole, may_enter, without_one, next_of, links_left, room_left}
+use Rattle.plant_ledger.proofs.Accounts.{MayFollow, Follow, whole, may_enter, without_one, next_of, links_left, room_left, next_left, few_live}
 use Rattle.plant_ledger.proofs.ledger.Ledger.enter.Goals as goal
 
 pub follow-requires-clause-links : goal.follow-requires-clause-links
@@ -66,15 +69,11 @@ invariant_of-self c =
     let total = under.total ∙ total_is whole inside.moment new (numbers.each before is).of_inverters ∙ ap (total_at whole) (sym may.at_once) in
     c.mark.ensures.set ∙ mark_next inside.book before c.args.entry c.under.new.self.total c.under.new.self.set (same ∙ kept.set before (without_one before inside.book c.args.entry is)) total in
     let marked = c.mark.ensures.sums new under in
-    let unqueued : c.mark.new.self.unqueued ≡ inside.sums.unqueued = c.mark.ensures.unqueued ∙ c.under.ensures.unqueued ∙ c.follow.ensures.unqueued in
-    let queued = c.queue_grant-self-inside in
-    let others : (inverter : ℕ) (write : writes.Write) → IsQueued inside.book.site.rules inside.expiries inside.sums.unqueued inverter write
-    → IsQueued inside.book.site.rules queued.new.expiries queued.result inverter write = λ inverter write is.
-    queued.ensures.others inside.book.site.rules inverter write (subst (λ (n : ℕ). IsQueued inside.book.site.rules inside.expiries n inverter write) (sym unqueued) is) in
-    let granted : (inverter : ℕ) (write : writes.Write) → named c.args.entry.call ≡ Some inverter → c.args.entry.reply ≡ replies.Granted write
-    → IsQueued inside.book.site.rules queued.new.expiries queued.result inverter write = λ inverter write is its.
-    queued.ensures.granted inside.book.site.rules inverter write kept.reach_is is its in
-    let all : Keeps (with_one inside.book c.args.entry) inside.moment new claims queued.new.expiries (record { total = c.mark.new.self.total; oldest = c.mark.new.self.oldest; level = c.mark.new.self.level; unqueued = queued.result; fall = c.mark.new.self.fall; set = c.mark.new.self.set }) c.cap_after-cap.result c.is_stopped_after-self-inside.result inside.reach =
+    let moved = c.follow_queue.ensures in
+    let before = kept.numbers.of_life.before in
+    let behind = kept.numbers.of_life.behind in
+    let its_enter = may_enter inside.book inside.moment c.args.entry before may behind in
+    let all : Keeps (with_one inside.book c.args.entry) inside.moment new claims c.follow_queue.new.expiries (record { total = c.mark.new.self.total; oldest = c.mark.new.self.oldest; level = c.mark.new.self.level; fall = c.mark.new.self.fall; set = c.mark.new.self.set }) c.cap_after-cap.result c.is_stopped_after-self-inside.result inside.reach =
     record {
       numbers = numbers;
       reach_is = kept.reach_is;
@@ -84,8 +83,40 @@ invariant_of-self c =
       level = subst (λ (made : Known). IsLevel c.cap_after-cap.result new made) (sym c.mark.ensures.level) (c.under.ensures.level new level);
       fall = subst (λ (made : Option ℕ). IsFallLevel c.cap_after-cap.result inside.book.site made) (sym c.mark.ensures.fall) (c.under.ensures.fall inside.book.site fall);
       set = mark;
-      queued = queued_entered inside.book.site.rules c.args.entry old new inside.expiries queued.new.expiries inside.sums.unqueued queued.result count
-          others granted (λ inverter otherwise is. rw (c.deref_mut.ensures.value, c.rules_of-rules.ensures) at (c.follow.ensures.named inverter otherwise is))
-          (λ is. c.follow.ensures.unnamed is ∙ c.deref_mut.ensures.value) kept.queued;
+      queued = queued_entered inside.book.site.rules inside.moment c.args.entry old new inside.expiries c.follow_queue.new.expiries count
+          (follow c.self.invariant.numbers.of_life.before).follows (follow c.self.invariant.numbers.of_life.before).stays
+          (λ inverter otherwise is. rw (c.deref.ensures.value, c.rules_of-rules.ensures) at (moved.follows inverter otherwise is)) moved.stays
+          (λ inverter is. omega (arith, subst (λ (o : Option ℕ). IfSome o (λ i. i < inverters inside.book.site)) is its_enter.next.of_site, kept.numbers.count))
+          (λ inverter otherwise write is grants. next_left (book_behind before inside.book) c.args.entry inside.moment old inside.cap inside.stopped (kept.numbers.each before behind)
+          its_enter inverter otherwise is write grants)
+          kept.queued;
     } in
     rw (c.push.ensures, whole new old inside.accounts.len len, whole claims inside.claims.items inside.claims.len claims_len) all
+
+pub follow_queue-requires-clause-room : goal.follow_queue-requires-clause-room
+follow_queue-requires-clause-room c = λ inverter write is grants.
+    let inside = c.self.inside in
+    let rules = inside.book.site.rules in
+    let kept = c.self.invariant in
+    let may : MayFollow inside.book inside.moment c.args.entry =
+    subst (λ (ledger : LedgerRecord). MayFollow ledger.book ledger.at c.args.entry) (sym c.self.view_is)
+    (record { calls = c.requires.life; next = c.requires.next; answer = c.requires.answer; at_once = c.requires.now }) in
+    let before = kept.numbers.of_life.before in
+    let behind = kept.numbers.of_life.behind in
+    let whole = book_behind before inside.book in
+    let accounts : List Account = inside.accounts.items in
+    let ledger = kept.numbers.each before behind in
+    let its_enter = may_enter inside.book inside.moment c.args.entry before may behind in
+    let within : inverter < length accounts = omega (arith, subst (λ (o : Option ℕ). IfSome o (λ i. i < inverters inside.book.site)) is its_enter.next.of_site, kept.numbers.count) in
+    let any = any_account accounts (omega (arith, within)) in
+    let next = next_left whole c.args.entry inside.moment accounts inside.cap inside.stopped ledger its_enter inverter any is write grants in
+    let room : HasRoom (replies.Granted write) (get_or accounts inverter any) =
+    subst (λ (reply : Reply). HasRoom reply (get_or accounts inverter any)) grants
+    (room_left whole c.args.entry inside.moment accounts inside.cap inside.stopped ledger its_enter inverter any is) in
+    let few = has_place rules inside.moment inside.expiries accounts inverter write any kept.queued (omega (arith, kept.numbers.count, kept.numbers.of_life.behind.book.openable.few)) within
+    room.1 (λ i below. few_live whole inside.moment accounts inside.cap inside.stopped ledger i any below) in
+    let latest = subst (λ (n : ℕ). All (λ due. due.last ≤ last_moment rules n) inside.expiries) (sym next.at) kept.queued.in_time in (
+      omega (arith, next.at, ledger.high),
+      few,
+      subst (λ (r : Rules). All (λ due. due.last ≤ last_moment r write.at) inside.expiries) (sym c.rules_of-rules.ensures) latest,
+    )

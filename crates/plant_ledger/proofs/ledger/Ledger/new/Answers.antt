@@ -8,7 +8,7 @@ use Rattle.plant_ledger.specs.Ledger.{IsLedgerOf, AreSums}
 use Rattle.plant_book.specs.Carry.{mark_of, EachBook}
 use Rattle.plant_ledger.proofs.Accounts.{first_of, first_mark}
 use Rattle.plant_ledger.specs.Queue.{AreQueued}
-use Rattle.plant_ledger.proofs.Queued.{queued_all}
+use Rattle.plant_ledger.proofs.Standing.{queued_first}
 use Rattle.plant_ledger.proofs.Running.{no_level, no_fall_level}
 use Rattle.plant_ledger.proofs.ledger.Ledger.new.Goals as goal
 
@@ -26,8 +26,8 @@ invariant_of-result c =
       reach_low = c.reach-reach.ensures.below;
       claims_are = c.in_ok-claims.ensures ∙ ap (map claim_by) c.deref-2.ensures.value;
       sums = subst (λ (all : List Account). AreSums all c.gather-sums.result) its c.gather-sums.ensures.sums;
-      queued = subst (λ (n : ℕ). AreQueued c.in_ok-book.book.site.rules c.in_ok-expiries.expiries n c.in_ok-accounts.accounts.items) (sym c.gather-sums.ensures.unqueued)
-          (queued_all c.in_ok-book.book.site.rules c.in_ok-expiries.expiries c.gather-sums.result.oldest c.in_ok-accounts.accounts.items (subst (λ (all : List Account). AreSums all c.gather-sums.result) its c.gather-sums.ensures.sums).oldest);
+      queued = rw c.in_ok-expiries.ensures (subst (λ (all : List Account). AreQueued c.in_ok-book.book.site.rules c.args.start [] all) (sym accounts)
+          (queued_first c.in_ok-book.book.site.rules c.args.start c.args.site.units));
       level = no_level _ _ _ c.gather-sums.ensures.made c.gather-sums.ensures.probe;
       fall = no_fall_level _ _ _ c.gather-sums.ensures.fall;
       set = subst (λ (book : PartRecord). EachBook book (λ whole. c.gather-sums.result.set ≡ mark_of whole)) (sym c.in_ok-book.ensures) (first_mark c.args.site c.args.start c.gather-sums.result.set c.gather-sums.ensures.set);

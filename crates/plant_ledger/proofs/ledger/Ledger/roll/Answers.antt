@@ -32,7 +32,7 @@ invariant_of-self c =
       sums = c.self.invariant.sums;
       level = c.self.invariant.level;
       fall = subst (λ (site : SiteRecord). IsFallLevel inside.cap site inside.sums.fall) (sym (ap (λ (book : PartRecord). book.site) begins)) c.self.invariant.fall;
-      queued = subst (λ (site : SiteRecord). AreQueued site.rules inside.expiries inside.sums.unqueued inside.accounts.items) (sym (ap (λ (book : PartRecord). book.site) begins)) c.self.invariant.queued;
+      queued = subst (λ (site : SiteRecord). AreQueued site.rules inside.moment inside.expiries inside.accounts.items) (sym (ap (λ (book : PartRecord). book.site) begins)) c.self.invariant.queued;
       set = rolled_mark inside.book c.in_ok-next.next inside.sums.set life (next c) c.self.invariant.set;
     })
 
