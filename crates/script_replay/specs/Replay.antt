@@ -42,9 +42,9 @@ pub record IsRefused (bytes : List ℕ) (fault : OpenFault) : Type 0 where
   pub is_script : IsScript bytes script
   pub refused : open_fault script.site ≡ Some fault
 
--- why no book is opened of a site
+-- why no book is opened of a site: for want of memory only where the site is refused for nothing
 abbrev pub RefusesSite : SiteRecord → ReplayFault → Type 0
-RefusesSite site faults.NoMemory = Unit {0}
+RefusesSite site faults.NoMemory = open_fault site ≡ None
 RefusesSite site (faults.BadLine line kind) = ⊥
 RefusesSite site (faults.BadSite fault) = open_fault site ≡ Some fault
 

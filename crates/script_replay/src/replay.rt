@@ -1,6 +1,7 @@
-ghost use Rattle.std.specs.Prelude.{◌≡◌, ◌≤◌, [], length, IfOk, IfErr};
+ghost use Rattle.std.specs.Prelude.{◌≡◌, ◌≤◌, [], length, IfOk, IfErr, OnOk, None};
 ghost use Rattle.script_text.specs.declared.script.TheConstants.{SCRIPT_BYTES_MAX};
 ghost use Rattle.plant_book.specs.declared.call.TheConstants.{MOMENT_MAX};
+ghost use Rattle.plant_ledger.specs.Opening.{open_fault};
 ghost use Rattle.script_text.specs.Text.{head_text};
 ghost use Rattle.script_replay.specs.Replay.{IsReplay, Explains, RefusesSite};
 ghost use Rattle.script_replay.specs.Playing.{IsFirstLife};
@@ -42,6 +43,7 @@ pub enum ReplayFault {
 fn open(alloc: Global, site: Site, start: u64) -> Result<Plant, ReplayFault>
     requires { start ≤ MOMENT_MAX }
     ensures opened { IfOk result (λ plant. IsFirstLife (record { site = site; start = start; lines = [] }) plant) }
+    ensures openable { OnOk result (open_fault site ≡ None) }
     ensures fault { IfErr result (λ fault. RefusesSite site fault) }
 {
     match Plant::open(alloc, site, start) {
@@ -63,7 +65,22 @@ fn head(alloc: Global, site: &Site, start: u64) -> Result<Vec<u8>, ReplayFault>
     }
 }
 
+/// The plant of the first life of a script, and the text of its head. A site that is refused comes before want of
+/// memory for the text.
+fn first_life(alloc: Global, site: Site, start: u64) -> Result<(Plant, Vec<u8>), ReplayFault>
+    requires { start ≤ MOMENT_MAX }
+    ensures opened { IfOk result (λ life. IsFirstLife (record { site = site; start = start; lines = [] }) life.0) }
+    ensures text { IfOk result (λ life. life.1.items ≡ head_text site start) }
+    ensures fault { IfErr result (λ fault. RefusesSite site fault) }
+{
+    let text = head(alloc, &site, start);
+    let plant = open(alloc, site, start)?;
+    Ok((plant, text?))
+}
+
 /// Replays a script: does its lines one after another as they are read, and writes the text of its lives.
+///
+/// A bad line and a site that is refused come before want of memory for what is done behind the head.
 pub fn replay_script(alloc: Global, bytes: &[u8]) -> Result<Replayed, ReplayFault>
     requires { length bytes.now ≤ SCRIPT_BYTES_MAX }
     ensures text { IfOk result (λ replayed. IsReplay bytes.now replayed.full replayed.text.items) }
@@ -74,9 +91,8 @@ pub fn replay_script(alloc: Global, bytes: &[u8]) -> Result<Replayed, ReplayFaul
         start,
         mut lines,
     } = begin(alloc, bytes)?;
-    let mut text = head(alloc, &site, start)?;
-    match open(alloc, site, start) {
-        Ok(mut plant) => {
+    match first_life(alloc, site, start) {
+        Ok((mut plant, mut text)) => {
             let full = play(alloc, &mut lines, &mut plant, &mut text)?;
             Ok(Replayed { text, full })
         }

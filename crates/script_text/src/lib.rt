@@ -16,6 +16,8 @@ mod number;
 mod pen;
 mod rows;
 mod script;
+#[cfg(test)]
+mod tests;
 mod text;
 
 pub use fault::ScriptFault;

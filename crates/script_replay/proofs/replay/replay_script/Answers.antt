@@ -6,13 +6,13 @@ use Rattle.script_replay.specs.Playing.{IsReplayed, bytes_of}
 use Rattle.script_replay.proofs.Plays.{starts, begun, whole_replay, refuses_rest}
 use Rattle.script_replay.proofs.replay.replay_script.Goals as goal
 
-pub open-requires : goal.open-requires
-open-requires c = starts c.args.bytes.now (script_begun c.in_ok-site.field-0) c.in_ok-site.field-0.lines c.in_ok-site.ensures
+pub first_life-requires : goal.first_life-requires
+first_life-requires c = starts c.args.bytes.now (script_begun c.in_ok-site.field-0) c.in_ok-site.field-0.lines c.in_ok-site.ensures
 
 pub play-requires-clause-begun : goal.play-requires-clause-begun
 play-requires-clause-begun c =
-    subst (λ (b : List ℕ). IsReplayed b c.in-Ok.plant c.in_ok-site.field-0.lines c.in-Ok.plant c.in_ok-text.text.items) (sym c.in_ok-site.ensures.whole)
-    (begun c.args.bytes.now c.in_ok-site.field-0.site c.in_ok-site.field-0.start c.in_ok-site.field-0.lines c.in-Ok.plant c.in_ok-text.text.items c.in_ok-site.ensures c.in-Ok.ensures.opened c.in_ok-text.ensures.text)
+    subst (λ (b : List ℕ). IsReplayed b c.in-Ok.plant c.in_ok-site.field-0.lines c.in-Ok.plant c.in-Ok.text.items) (sym c.in_ok-site.ensures.whole)
+    (begun c.args.bytes.now c.in_ok-site.field-0.site c.in_ok-site.field-0.start c.in_ok-site.field-0.lines c.in-Ok.plant c.in-Ok.text.items c.in_ok-site.ensures c.in-Ok.ensures.opened c.in-Ok.ensures.text)
 
 pub returns-in_ok-full-in-Ok-clause-text : goal.returns-in_ok-full-in-Ok-clause-text
 returns-in_ok-full-in-Ok-clause-text c =
