@@ -3,5 +3,5 @@ pub mod Blocks
 pub mod Outside
 pub mod Holding
 pub mod Limits
-pub mod Following
-pub mod Ordering
+pub mod Doing
+pub mod Banks

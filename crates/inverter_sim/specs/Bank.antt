@@ -4,6 +4,7 @@ use Rattle.limiter_num.specs.declared.rules.Rules.{Rules}
 use Rattle.limiter_num.specs.Timers.{tmin, tmax}
 use Rattle.limiter_num.specs.Rating.{full}
 use Rattle.plant_book.specs.declared.site.Unit as units
+use Rattle.inverter_sim.specs.HeldLimit.{LimitRecord, limit_at}
 
 -- the inverter, the rules, its unit number, and for how many milliseconds it holds a limit; then the raw
 -- percentage that it holds, the moment at which it reverts to its floor, where a revert is due, and the last
@@ -45,18 +46,15 @@ pub record IsSameInverter (old new : BankRecord) : Type 0 where
   pub number : new.number ≡ old.number
   pub after : new.after ≡ old.after
 
--- whether a revert is due by a moment
-abbrev pub is_due : ℕ → Option ℕ → Bool
-is_due now None = false
-is_due now (Some moment) = nat_le moment now
+-- the limit that a bank holds
+abbrev pub limit_of : BankRecord → LimitRecord
+limit_of bank = record { raw = bank.raw; revert = bank.revert }
 
 -- the bank at a moment: a revert that is due by then has come
 abbrev pub bank_at : ℕ → BankRecord → BankRecord
-bank_at now bank = record bank {
-  raw = if is_due now bank.revert then bank.unit.floor else bank.raw;
-  revert = if is_due now bank.revert then None else bank.revert;
-  last = now;
-}
+bank_at now bank =
+    let limit = limit_at bank.unit.floor now (limit_of bank) in
+    record bank { raw = limit.raw; revert = limit.revert; last = now }
 
 -- the raw percentage that it holds at a moment
 abbrev pub held_at : ℕ → BankRecord → ℕ

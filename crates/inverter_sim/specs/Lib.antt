@@ -2,4 +2,5 @@ pub mod Bank
 pub mod RegisterMap
 pub mod Replies
 pub mod Calls
-pub mod Arrivals
+pub mod Following
+pub mod HeldLimit

@@ -6,6 +6,7 @@ ghost use Rattle.inverter_sim.specs.Bank.{IsBank, IsSameInverter, new_bank, bank
 ghost use Rattle.inverter_sim.specs.RegisterMap.{seconds_left, contents};
 ghost use Rattle.inverter_sim.specs.Replies.{HasReadCount, sets_limit, reply_to, taken_limit, with_limit, reply_of, state_after};
 
+use crate::held_limit::HeldLimit;
 use crate::registers::{halves, register_by, scale};
 use der_models::limit_block;
 use der_models::offsets::{
@@ -62,10 +63,8 @@ pub struct Bank {
     rules: Rules,
     number: u8,
     after: u64,
-    /// The limit that is held, as a raw percentage.
-    raw: u16,
-    /// The moment in ms at which it reverts to the floor.
-    revert: Option<u64>,
+    /// The limit that is held.
+    limit: HeldLimit,
     /// The last moment of a call, in ms.
     last: u64,
 }
@@ -80,8 +79,8 @@ impl Model for Bank {
       rules = bank.rules;
       number = bank.number;
       after = bank.after;
-      raw = bank.raw;
-      revert = bank.revert;
+      raw = bank.limit.raw;
+      revert = bank.limit.revert;
       last = bank.last;
     } };
 
@@ -90,8 +89,8 @@ impl Model for Bank {
       rules = bank.rules;
       number = bank.number;
       after = bank.after;
-      raw = bank.raw;
-      revert = bank.revert;
+      raw = bank.limit.raw;
+      revert = bank.limit.revert;
       last = bank.last;
     }) };
 }
@@ -105,13 +104,13 @@ impl Bank {
         ensures made { result ≡ new_bank unit rules number after }
         ensures kept { IsBank result }
     {
+        let limit = HeldLimit::of_floor(unit.floor);
         Bank {
             unit,
             rules,
             number,
             after,
-            raw: unit.floor,
-            revert: None,
+            limit,
             last: 0,
         }
     }
@@ -150,7 +149,7 @@ impl Bank {
         ensures kept { IsBank self.new }
     {
         self.pass(now);
-        self.raw
+        self.limit.raw()
     }
 
     /// The unit number that the inverter answers to.
@@ -167,10 +166,7 @@ impl Bank {
         ensures state { self.new ≡ bank_at now self.old }
         ensures kept { IsBank self.new }
     {
-        if self.revert.is_some_and(|moment| moment <= now) {
-            self.raw = self.unit.floor;
-            self.revert = None;
-        }
+        self.limit.pass(self.unit.floor, now);
         self.last = now;
     }
 
@@ -212,8 +208,7 @@ impl Bank {
             return refused(ILLEGAL_DATA_VALUE);
         }
         let until = self.last + self.after;
-        self.raw = values[1];
-        self.revert = Some(until);
+        self.limit.hold(values[1], until);
         Reply::Wrote {
             start,
             count: LIMIT_REGISTERS,
@@ -239,7 +234,7 @@ impl Bank {
         let rating = &self.unit.rating;
         let (wsf, psf) = (scale(rating.wsf), scale(rating.psf));
         let [ena, pct, pct_rvrt, ena_rvrt, tms_high, tms_low] = limit_block(
-            self.raw,
+            self.limit.raw(),
             self.unit.floor,
             self.rules.timer,
         );
@@ -281,7 +276,7 @@ impl Bank {
     fn seconds_left(&self) -> u32
         ensures { result ≡ seconds_left self.now.last self.now.revert }
     {
-        match self.revert {
+        match self.limit.revert() {
             Some(moment) => (moment - self.last).div_ceil(1000) as u32,
             None => 0,
         }

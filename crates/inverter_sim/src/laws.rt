@@ -1,21 +1,20 @@
 //! Laws of the definitions alone.
-ghost use Rattle.std.specs.Prelude.{◌≡◌, ℕ, ◌+◌, ◌<◌, ◌≤◌, List, [], ◌∷◌, ◌++◌, Some, IsSomeAnd, find, filter, map};
-ghost use Rattle.std.specs.List.{AllByRecursion};
+ghost use Rattle.std.specs.Prelude.{◌≡◌, ℕ, ◌+◌, ◌<◌, ◌≤◌, Contains, List, [], ◌∷◌, ◌++◌, Option, None, Some};
 ghost use Rattle.limiter_num.specs.declared.rules.Rules.{Rules};
 ghost use Rattle.limiter_num.specs.Rating.{full};
 ghost use Rattle.limiter_num.specs.Timers.{tmin, tmax};
 ghost use Rattle.plant_book.specs.declared.site.Unit as units;
-ghost use Rattle.plant_book.specs.Sums.{last_that};
-ghost use Rattle.plant_book.specs.Site.{SiteRecord, floor_raw_at};
-ghost use Rattle.plant_book.specs.History.{Grant, Sight};
-ghost use Rattle.plant_book.specs.Behaviour.{Act, Revert, Look, Timed, Precedes, IsAct, is_change, held};
-ghost use Rattle.plant_book.specs.Held.{IsCut};
+ghost use Rattle.plant_book.specs.Site.{floor_raw_at};
+ghost use Rattle.plant_book.specs.History.{History, Grant, Sight, sights, link_of_sight};
+ghost use Rattle.plant_book.specs.Behaviour.{Timed};
 ghost use Rattle.der_models.specs.Limit.{limit_registers};
-ghost use Rattle.inverter_sim.specs.Bank.{BankRecord, IsBank, held_at};
+ghost use Rattle.inverter_sim.specs.HeldLimit.{limit_at};
+ghost use Rattle.inverter_sim.specs.Bank.{BankRecord, IsBank, bank_at, held_at};
 ghost use Rattle.inverter_sim.specs.RegisterMap.{seconds_left, high, low};
-ghost use Rattle.inverter_sim.specs.Replies.{reply_to, taken_limit};
+ghost use Rattle.inverter_sim.specs.Replies.{reply_to, taken_limit, with_limit};
 ghost use Rattle.inverter_sim.specs.Calls.{Call, state_after_calls, CameBy, TakeNone, TookLast};
-ghost use Rattle.inverter_sim.specs.Arrivals.{Arrival, state_after_arrivals, call_of, IsHeldFor, timed_of, is_arrival, events, events_by, events_behind, IsRun};
+ghost use Rattle.inverter_sim.specs.Following.{FollowsDevice, HasFollowed, IsAskedUpTo, IsInTolerance, IsNewSight, MayAct};
+ghost use Rattle.inverter_sim.specs.Following.{act_at, limit_write, look_at, revert_by};
 
 use modbus_pdu::{Reply, Request};
 
@@ -47,44 +46,43 @@ pub fn limits_are_taken_and_shown()
         ++ high (seconds_left bank.last bank.revert) ∷ low (seconds_left bank.last bank.revert) ∷ []) }
 {}
 
-/// A simulated inverter follows the timed device. It begins at its floor; the writes and reads of a plant
-/// reach it in order, and it holds each write for a time that the tolerance of its timer allows. Then its
-/// Acts, Reverts and Looks keep the rules of the timed device on time and on what is held.
+/// A limit that is held until it reverts is the timed device. It begins as the floor. As time passes, the revert comes
+/// that is due. A write that may act is held for a time that the tolerance of the timer allows. A read that is looked at
+/// shows what is held. So an inverter that does only this follows the timed device, at every moment.
+pub fn limits_follow_the_timed_device()
+    ensures begins { (history : History) (inverter now : ℕ)
+        → ((sight : Sight) → Contains (sights history) sight → sight.read.inverter ≡ inverter → ⊥)
+        → HasFollowed history inverter now (floor_raw_at history.life.site inverter) None [] }
+    ensures passes { (history : History) (inverter now later : ℕ) (events : List Timed) → now ≤ later
+        → (raw : ℕ) (revert : Option ℕ) → HasFollowed history inverter now raw revert events
+        → let limit = limit_at (floor_raw_at history.life.site inverter) later (record { raw = raw; revert = revert }) in
+        HasFollowed history inverter later limit.raw limit.revert (events ++ revert_by later revert) }
+    ensures acts { (history : History) (inverter now raw : ℕ) (before : Option ℕ) (events : List Timed)
+        → HasFollowed history inverter now raw before events
+        → (grant : Grant) → MayAct history inverter now events grant
+        → (revert : ℕ) → IsInTolerance history.life.site.rules now revert
+        → HasFollowed history inverter now grant.write.raw (Some revert) (events ++ act_at now grant ∷ []) }
+    ensures looks { (old new : History) (inverter now raw : ℕ) (revert : Option ℕ) (events : List Timed)
+        → HasFollowed old inverter now raw revert events
+        → (sight : Sight) → IsNewSight old new inverter sight
+        → sight.read.at ≤ now → now ≤ sight.at → sight.raw ≡ raw
+        → IsAskedUpTo events (link_of_sight sight) sight.read.number
+        → HasFollowed new inverter now raw revert (events ++ look_at now sight ∷ []) }
+    ensures follows { (history : History) (inverter now raw : ℕ) (revert : Option ℕ) (events : List Timed)
+        → HasFollowed history inverter now raw revert events → FollowsDevice history inverter now raw }
+{}
+
+/// A simulated inverter holds its limit so: as time passes, and where a write reaches it that it takes and that may act.
 pub fn banks_follow_the_timed_device()
-    // Apart from the Reverts, what it did is what reached it.
-    ensures arrivals { (bank : BankRecord) (arrivals : List Arrival)
-        → filter (λ timed. is_arrival timed.event) (events bank arrivals) ≡ map timed_of arrivals }
-    ensures in_order { (bank : BankRecord) (arrivals : List Arrival) → IsRun bank arrivals
-        → (first second : Timed) → Precedes (events bank arrivals) first second → first.at ≤ second.at }
-
-    // The rules on Acts, Reverts and Looks.
-    ensures ends { (bank : BankRecord) (arrivals : List Arrival) → IsRun bank arrivals
-        → (before after : List Timed) (at : ℕ) (grant : Grant)
-        → events bank arrivals ≡ before ++ record { at = at; event = Act grant } ∷ after
-        → IsSomeAnd (find is_change after) (λ next. next.at ≤ at + tmax bank.rules) }
-    ensures reverts { (bank : BankRecord) (arrivals : List Arrival) → IsRun bank arrivals
-        → (before after : List Timed) (at : ℕ)
-        → events bank arrivals ≡ before ++ record { at = at; event = Revert } ∷ after
-        → IsSomeAnd (last_that is_change before) (λ last. IsAct last.event
-        × (last.at + tmin bank.rules ≤ at) × (at ≤ last.at + tmax bank.rules)) }
-    ensures shown { (bank : BankRecord) (arrivals : List Arrival) → IsRun bank arrivals
-        → (site : SiteRecord) (inverter : ℕ) → floor_raw_at site inverter ≡ bank.unit.floor
-        → (before after : List Timed) (at : ℕ) (sight : Sight)
-        → events bank arrivals ≡ before ++ record { at = at; event = Look sight } ∷ after
-        → held site inverter before ≡ sight.raw }
-
-    // At a moment behind the last arrival the bank holds what is held by the events up to that moment.
-    ensures cut { (bank : BankRecord) (arrivals : List Arrival) → IsRun bank arrivals
-        → (now : ℕ) → (state_after_arrivals bank arrivals).last ≤ now
-        → IsCut (events bank arrivals) now (events_by now bank arrivals) (events_behind now bank arrivals) }
-    ensures held { (bank : BankRecord) (arrivals : List Arrival) → IsRun bank arrivals
-        → (site : SiteRecord) (inverter : ℕ) → floor_raw_at site inverter ≡ bank.unit.floor
-        → (now : ℕ) → (state_after_arrivals bank arrivals).last ≤ now
-        → held site inverter (events_by now bank arrivals)
-        ≡ held_at now (state_after_arrivals bank arrivals) }
-
-    // A bank that holds each write for its own time is such an inverter.
-    ensures calls { (bank : BankRecord) (arrivals : List Arrival)
-        → AllByRecursion (IsHeldFor bank.after) arrivals
-        → state_after_arrivals bank arrivals ≡ state_after_calls bank (map (call_of bank) arrivals) }
+    ensures passes { (bank : BankRecord) (history : History) (inverter : ℕ) (events : List Timed)
+        → HasFollowed history inverter bank.last bank.raw bank.revert events
+        → floor_raw_at history.life.site inverter ≡ bank.unit.floor → (now : ℕ) → bank.last ≤ now
+        → HasFollowed history inverter now (bank_at now bank).raw (bank_at now bank).revert
+        (events ++ revert_by now bank.revert) }
+    ensures acts { (bank : BankRecord) (history : History) (inverter : ℕ) (events : List Timed)
+        → HasFollowed history inverter bank.last bank.raw bank.revert events
+        → IsBank bank → bank.rules ≡ history.life.site.rules
+        → (grant : Grant) → grant.write.raw ≤ full bank.unit.rating → MayAct history inverter bank.last events grant
+        → let bank_then = with_limit bank (taken_limit bank.unit bank.rules (limit_write bank grant.write.raw)) in
+        HasFollowed history inverter bank.last bank_then.raw bank_then.revert (events ++ act_at bank.last grant ∷ []) }
 {}

@@ -24,7 +24,8 @@ use Rattle.plant_simulation.specs.declared.inverter.OldWrite.{OldWrite}
 use Rattle.plant_simulation.specs.World.{InverterRecord, fresh}
 use Rattle.plant_simulation.specs.Inverter.{is_late, holding, emptied, without_first, without_old}
 use Rattle.plant_simulation.proofs.Longer.{commissioned, made, number_of, grants_next, sights_next}
-use Rattle.plant_simulation.proofs.Doing.{IsLonger, Does, does_act, does_longer}
+use Rattle.inverter_sim.specs.Following.{IsLonger, HasFollowed}
+use Rattle.inverter_sim.proofs.Doing.{does_act, does_longer}
 use Rattle.plant_simulation.proofs.Queue.{InOrder, number_in, NotAbove, AskedUpTo, Stage, IsUnderWay, Queue, GoesOn, queue_on}
 use Rattle.plant_simulation.proofs.Moves.{link_of_life, act_is_of, queue_asked, the_stray, queue_act_old, queue_rest, queue_emptied, queue_linked, queue_next}
 use Rattle.plant_simulation.proofs.Follows.{stage_of, Follows, IsTimedSite, next_link, after, longer_after, sight_before, pending_next}
@@ -51,7 +52,7 @@ module _ (earlier : List BookRecord) (book : BookRecord) (inverter now : ℕ) (t
   module _ (revert : ℕ) (low : now + 58300 ≤ revert) (high : revert ≤ now + 61700) where
     acts : (life place : ℕ) (write : writes.Write) → 1 ≤ life → Contains (grants (commissioned earlier book)) (made life place write) → write.inverter ≡ inverter → write.at ≤ now → is_late now write ≡ false
         → AllByRecursion (AskedUpTo (life, write.link) write.number) follows.events
-        → Does (commissioned earlier book) inverter now write.raw (Some revert) (follows.events ++ record { at = now; event = Act (made life place write) } ∷ [])
+        → HasFollowed (commissioned earlier book) inverter now write.raw (Some revert) (follows.events ++ record { at = now; event = Act (made life place write) } ∷ [])
     acts life place write from granted mine at timely numbers =
         does_act (commissioned earlier book) inverter now follows.events its.held its.due follows.does (made life place write) revert granted mine at (in_time write timely)
         (subst (λ (link : ℕ × ℕ). AllByRecursion (AskedUpTo link write.number) follows.events) (sym (link_of_life life place write from)) numbers)

@@ -26,7 +26,8 @@ use Rattle.plant_simulation.specs.declared.inverter.Request.TheVariants as sent
 use Rattle.plant_simulation.specs.World.{InverterRecord}
 use Rattle.plant_simulation.specs.Inverter.{requested, queued, without_first}
 use Rattle.plant_simulation.proofs.Longer.{commissioned, made, number_of, grants_more, sights_more, grant_is_within, sight_is_within, none_after}
-use Rattle.plant_simulation.proofs.Doing.{IsNewSight, does_look}
+use Rattle.inverter_sim.specs.Following.{IsNewSight}
+use Rattle.inverter_sim.proofs.Doing.{does_look}
 use Rattle.plant_simulation.proofs.Queue.{number_in, AskedUpTo, Queue, queue_on}
 use Rattle.plant_simulation.proofs.Moves.{IsOf, queue_asked, queue_rest}
 use Rattle.plant_simulation.proofs.Follows.{PendingIn, stage_of, Follows, IsTimedSite, same_link, after, longer_after, sight_before, still_pending, goes_new, follows_other, follows_queued}

@@ -26,11 +26,12 @@ use Rattle.plant_simulation.specs.Site.{site_of, unit}
 use Rattle.plant_simulation.specs.World.{InverterRecord, World, fresh, held_by, held_in}
 use Rattle.plant_simulation.specs.Step.{stepped}
 use Rattle.plant_simulation.specs.Summary.{unlinked, beginning, plant_after, peak_after}
-use Rattle.plant_simulation.specs.Devices.{FollowsDevice, ended_by, ended_after, AreDevices}
+use Rattle.inverter_sim.specs.Following.{FollowsDevice}
+use Rattle.plant_simulation.specs.Devices.{ended_by, ended_after, AreDevices}
 use Rattle.plant_simulation.proofs.Running.{runs_after}
 use Rattle.plant_simulation.proofs.Peak.{is_peak}
 use Rattle.plant_simulation.proofs.Longer.{commissioned}
-use Rattle.plant_simulation.proofs.Doing.{does_end}
+use Rattle.inverter_sim.proofs.Doing.{does_end}
 use Rattle.plant_simulation.proofs.Follows.{Follows, IsTimedSite}
 use Rattle.plant_simulation.proofs.Acting.{follows_fresh}
 use Rattle.plant_simulation.proofs.Plants.{Each}

@@ -2,6 +2,7 @@
 use Rattle.std.proofs.Common.{◌≡◌, ℕ, ◌+◌, ◌≤◌, Bool, true, false, cond, eqb, leb, List, [], ◌∷◌, ◌++◌, length, map, Option, Some, None, refl, sym, ap, subst, ◌∙◌, arith, inl, inr, ◌⊎◌}
 use Rattle.std.specs.Prelude.{Contains}
 use Rattle.std.proofs.lemmas.Bool.{cases_Bool, eq-eqb, leb-true, leb-false}
+use Rattle.std.proofs.lemmas.List.{append-nil}
 use Rattle.std.proofs.lemmas.List.Elements.{Contains-append_cases, Contains-append_left}
 use Rattle.limiter_num.specs.Timers.{tmin, tmax, last_act}
 use Rattle.plant_book.specs.declared.call.Call.{Call}
@@ -24,10 +25,12 @@ use Rattle.plant_book.proofs.Granting.{rest_of}
 use Rattle.plant_book.proofs.Steps.{count_by-push, last_that-push, requests-push}
 use Rattle.plant_book.proofs.Numbers.{request_is_no_link, read_is_at, read_inverter}
 use Rattle.plant_simulation.specs.declared.inverter.Request.{Request}
+use Rattle.plant_simulation.specs.declared.inverter.OldWrite.{OldWrite}
 use Rattle.plant_simulation.specs.World.{InverterRecord}
-use Rattle.plant_simulation.specs.Inverter.{is_due, reverted, is_late_request, inverter_at}
+use Rattle.plant_simulation.specs.Inverter.{reverted, is_late_request, inverter_at}
 use Rattle.plant_simulation.proofs.Longer.{commissioned, made, KeepsAll, number_of, grants_more, sights_more}
-use Rattle.plant_simulation.proofs.Doing.{IsLonger, Does, does_later, does_revert, does_longer}
+use Rattle.inverter_sim.specs.Following.{IsLonger, HasFollowed, revert_by}
+use Rattle.inverter_sim.proofs.Doing.{does_pass, does_longer}
 use Rattle.plant_simulation.proofs.Queue.{number_in, Stage, IsOfGrant, Queue, GoesOn, queue_on, queue_timely}
 use Rattle.plant_simulation.proofs.Moves.{queue_reverted, queue_push}
 
@@ -56,7 +59,7 @@ stage_of earlier book inverter now bound = record {
 -- holds, and what is on its way to it.
 pub record Follows (earlier : List BookRecord) (book : BookRecord) (inverter now bound : ℕ) (its : InverterRecord) : Type 0 where
   pub events : List Timed
-  pub does : Does (commissioned earlier book) inverter now its.held its.due events
+  pub does : HasFollowed (commissioned earlier book) inverter now its.held its.due events
   pub queue : Queue (stage_of earlier book inverter now bound) events its.line its.strays
   pub pending : PendingIn inverter book.entries now
 
@@ -68,14 +71,6 @@ pub record IsTimedSite (site : SiteRecord) (inverter : ℕ) : Type 0 where
   pub last : (at : ℕ) → last_act site.rules at ≡ at + 5000
 
 -- time passes
-due_is : (later : ℕ) (due : Option ℕ) → is_due later due ≡ true → (moment : ℕ) × (due ≡ Some moment) × (moment ≤ later)
-due_is later None is = absurd cc
-due_is later (Some moment) is = (moment, refl, leb-true moment later is)
-
-not_due : (later : ℕ) (due : Option ℕ) → is_due later due ≡ false → (moment : ℕ) → due ≡ Some moment → later ≤ moment
-not_due later None is moment same = absurd cc
-not_due later (Some due) is moment same = let less = leb-false due later is in let one : due ≡ moment = cc in omega (arith, less, one)
-
 module _ (earlier : List BookRecord) (book : BookRecord) (inverter now later bound : ℕ) (timed : IsTimedSite book.site inverter) (le : now ≤ later) where
   abbrev passing : Stage
   passing = record (stage_of earlier book inverter now bound) { now = later }
@@ -83,7 +78,7 @@ module _ (earlier : List BookRecord) (book : BookRecord) (inverter now later bou
   -- the same without what is too late
   record Passing (its : InverterRecord) : Type 0 where
     events : List Timed
-    does : Does (commissioned earlier book) inverter later its.held its.due events
+    does : HasFollowed (commissioned earlier book) inverter later its.held its.due events
     queue : Queue passing events its.line its.strays
 
   longer_same : IsLonger (commissioned earlier book) (commissioned earlier book)
@@ -92,22 +87,23 @@ module _ (earlier : List BookRecord) (book : BookRecord) (inverter now later bou
   passes_on : GoesOn (stage_of earlier book inverter now bound) passing
   passes_on = record { longer = longer_same; inverter = refl; now = le; clock = refl; lives = refl; link = refl; requests = omega arith; bound = omega arith }
 
+  -- what reverted at most is no request
+  queue_passed : (due : Option ℕ) (events : List Timed) (line : List Request) (strays : List OldWrite) → Queue passing events line strays → Queue passing (events ++ revert_by later due) line strays
+  queue_passed None events line strays queue = rw (append-nil events) queue
+  queue_passed (Some due) events line strays queue =
+      elim (cases_Bool (leb due later)) [
+        | inl early ↦ rw early (queue_reverted passing events due line strays queue)
+        | inr late ↦ rw (late, append-nil events) queue
+      ]
+
   passing_reverted : (its : InverterRecord) → Follows earlier book inverter now bound its → Passing (reverted later its)
   passing_reverted its follows =
-      let history = commissioned earlier book in
       let queue = queue_on (stage_of earlier book inverter now bound) passing passes_on follows.events its.line its.strays follows.queue in
-      elim (cases_Bool (is_due later its.due)) [
-        | inl due ↦
-            let is = due_is later its.due due in
-            let does = does_revert history inverter now follows.events its.held is.0 (subst (λ (o : Option ℕ). Does history inverter now its.held o follows.events) is.1 follows.does) later is.2 in
-            rw due (record {
-              events = follows.events ++ record { at = is.0; event = Revert } ∷ [];
-              does = subst (λ (raw : ℕ). Does history inverter later raw None (follows.events ++ record { at = is.0; event = Revert } ∷ [])) timed.floor does;
-              queue = queue_reverted passing follows.events is.0 its.line its.strays queue;
-            })
-        | inr waits ↦
-            rw waits (record { events = follows.events; does = does_later history inverter now follows.events its.held later its.due le (not_due later its.due waits) follows.does; queue = queue })
-      ]
+      record {
+        events = follows.events ++ revert_by later its.due;
+        does = rw (← timed.floor) (does_pass (commissioned earlier book) inverter now later follows.events le its.held its.due follows.does);
+        queue = queue_passed its.due follows.events its.line its.strays queue;
+      }
 
   pub follows_at : (its : InverterRecord) → Follows earlier book inverter now bound its → Follows earlier book inverter later bound (inverter_at later its)
   unfolding inverter_at
@@ -239,7 +235,7 @@ module _ (earlier : List BookRecord) (book : BookRecord) (entry : Entry) (keeps 
       still_pending = pending_next inverter book entry now right until follows.pending
 
       module _ (unseen : (sight : Sight) → Contains seen_now sight → sight.read.inverter ≡ inverter → ⊥) where
-        still_does : Does new_history inverter now its.held its.due follows.events
+        still_does : HasFollowed new_history inverter now its.held its.due follows.events
         still_does = does_longer old_history new_history longer_after inverter now its.held its.due follows.events follows.does
             (λ sight within mine. elim (sight_before sight within) [ inl before ↦ before | inr new ↦ absurd (unseen sight new mine) ])
 

@@ -5,7 +5,6 @@ pub mod Ranges
 pub mod Running
 pub mod Peak
 pub mod Longer
-pub mod Doing
 pub mod Queue
 pub mod Moves
 pub mod Follows

@@ -12,7 +12,7 @@ use Rattle.plant_simulation.specs.declared.inverter.Request.TheVariants as sent
 use Rattle.plant_simulation.specs.declared.inverter.OldWrite.{OldWrite}
 use Rattle.plant_simulation.specs.Inverter.{is_late, is_late_request}
 use Rattle.plant_simulation.proofs.Ranges.{all_filter, all_append, all_take, all_drop}
-use Rattle.plant_simulation.proofs.Doing.{IsLonger}
+use Rattle.inverter_sim.specs.Following.{IsLonger}
 
 -- each element has this relation to each later one
 abbrev pub InOrder : {X : Type 0} → (X → X → Type 0) → List X → Type 0

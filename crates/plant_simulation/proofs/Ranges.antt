@@ -32,7 +32,8 @@ use Rattle.plant_simulation.specs.declared.inverter.Request.TheVariants as sent
 use Rattle.plant_simulation.specs.declared.inverter.OldWrite.{OldWrite}
 use Rattle.plant_simulation.specs.World.{InverterRecord, fresh}
 use Rattle.plant_simulation.specs.Call.{freed_in}
-use Rattle.plant_simulation.specs.Inverter.{is_due, reverted, is_late, is_late_request, inverter_at, requested, queued, holding, old_writes, emptied, without_first, is_of_link, without_old, changed_at}
+use Rattle.inverter_sim.specs.HeldLimit.{is_due}
+use Rattle.plant_simulation.specs.Inverter.{reverted, is_late, is_late_request, inverter_at, requested, queued, holding, old_writes, emptied, without_first, is_of_link, without_old, changed_at}
 
 -- a raw percentage that is found is at most 65535
 greatest_le : (n : ℕ) (test : ℕ → Bool) → greatest_up_to n test ≤ n

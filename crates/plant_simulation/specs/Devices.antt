@@ -4,21 +4,10 @@ use Rattle.std.proofs.Common.{zero, suc}
 use Rattle.plant_book.specs.Book.{BookRecord}
 use Rattle.plant_book.specs.Reserved.{now_of}
 use Rattle.plant_book.specs.History.{History, IsHistory}
-use Rattle.plant_book.specs.Behaviour.{Timed, held, IsBehaviour}
-use Rattle.plant_book.specs.Held.{IsCut}
+use Rattle.inverter_sim.specs.Following.{FollowsDevice}
 use Rattle.restart_silence.specs.Chain.{ending_in}
 use Rattle.plant_simulation.specs.World.{World, held_by}
 use Rattle.plant_simulation.specs.Summary.{plant_after}
-
--- An inverter that follows the timed device over a history: its behaviour, and a cut of it at a moment,
--- behind which it holds this raw percentage.
-pub record FollowsDevice (history : History) (inverter at raw : ℕ) : Type 0 where
-  pub events : List Timed
-  pub first : List Timed
-  pub rest : List Timed
-  pub behaviour : IsBehaviour history inverter events
-  pub cut : IsCut events at first rest
-  pub holds : held history.life.site inverter first ≡ raw
 
 -- the book that a step ended, where it began the next life
 abbrev pub ended_by : World → World → List BookRecord

@@ -7,15 +7,14 @@ use Rattle.plant_book.specs.declared.call.Reply.TheVariants as replies
 use Rattle.plant_simulation.specs.declared.inverter.Request.{Request}
 use Rattle.plant_simulation.specs.declared.inverter.Request.TheVariants as requests
 use Rattle.plant_simulation.specs.declared.inverter.OldWrite.{OldWrite}
+use Rattle.inverter_sim.specs.HeldLimit.{limit_at}
 use Rattle.plant_simulation.specs.World.{InverterRecord}
-
-abbrev pub is_due : ℕ → Option ℕ → Bool
-is_due now None = false
-is_due now (Some moment) = nat_le moment now
 
 -- an inverter whose revert moment is at most now holds its floor
 abbrev pub reverted : ℕ → InverterRecord → InverterRecord
-reverted now its = if is_due now its.due then record its { held = 100; due = None } else its
+reverted now its =
+    let limit = limit_at 100 now (record { raw = its.held; revert = its.due }) in
+    record its { held = limit.raw; due = limit.revert }
 
 -- whether a write is past the last moment at which it may act
 abbrev pub is_late : ℕ → writes.Write → Bool

@@ -2,6 +2,7 @@ ghost use Rattle.std.specs.Prelude.{◌≡◌, ◌<◌, ◌≤◌, ◌++◌, ◌
 ghost use Rattle.plant_simulation.specs.World.{fresh};
 ghost use Rattle.plant_simulation.specs.Inverter as rule;
 
+use inverter_sim::HeldLimit;
 use limiter_num::NoMemory;
 use plant_book::{Read, Reply, Write};
 use std::alloc::{AllocError, Global};
@@ -38,10 +39,8 @@ pub struct OldWrite {
 /// A simulated inverter, with the requests on their way to it.
 #[derive(Debug, Drop)]
 pub struct Inverter {
-    /// The limit that it holds, as a raw percentage.
-    held: u16,
-    /// The moment in ms at which it reverts to the floor.
-    due: Option<u64>,
+    /// The limit that it holds.
+    limit: HeldLimit,
     /// The requests of its link that are not delivered yet, in order.
     line: Vec<Request>,
     /// The writes of its earlier links that are not delivered yet, in the order in which they came here.
@@ -53,7 +52,7 @@ impl Model for Inverter {
 
     ghost Value = { InverterRecord };
 
-    ghost view = { λ i. record { held = i.held; due = i.due; line = i.line.items; strays = i.strays.items } };
+    ghost view = { λ i. record { held = i.limit.raw; due = i.limit.revert; line = i.line.items; strays = i.strays.items } };
 }
 
 /// Whether a write is past the last moment at which it may act.
@@ -79,8 +78,7 @@ impl Inverter {
         ensures { result ≡ fresh }
     {
         Inverter {
-            held: FLOOR,
-            due: None,
+            limit: HeldLimit::of_floor(FLOOR),
             line: Vec::new(alloc),
             strays: Vec::new(alloc),
         }
@@ -90,17 +88,14 @@ impl Inverter {
     pub fn held(&self) -> u16
         ensures { result ≡ self.now.held }
     {
-        self.held
+        self.limit.raw()
     }
 
     /// Reverts to the floor where the moment for that has come.
     fn revert(&mut self, now: u64)
         ensures { self.new ≡ rule.reverted now self.old }
     {
-        if matches!(self.due, Some(moment) if moment <= now) {
-            self.held = FLOOR;
-            self.due = None;
-        }
+        self.limit.pass(FLOOR, now);
     }
 
     /// Drops the writes that are too late.
@@ -137,8 +132,7 @@ impl Inverter {
     pub fn hold(&mut self, raw: u16, revert: u64)
         ensures { self.new ≡ rule.holding raw revert self.old }
     {
-        self.held = raw;
-        self.due = Some(revert);
+        self.limit.hold(raw, revert);
     }
 
     /// The first request of the line.

@@ -13,7 +13,7 @@ invariant_of-self c =
     record {
       after_low = c.self.invariant.after_low;
       after_high = c.self.invariant.after_high;
-      raw = raw_within own.unit own.rules c.args.values.now taken;
-      revert = (omega arith, omega arith);
+      raw = rw c.hold.ensures (raw_within own.unit own.rules c.args.values.now taken);
+      revert = rw c.hold.ensures (omega arith, omega arith);
       last = c.self.invariant.last;
     }

@@ -1,8 +1,8 @@
 -- What a simulated inverter did so far, as the timed device does it.
-use Rattle.std.proofs.Common.{◌≡◌, ℕ, ◌+◌, ◌≤◌, true, false, eqb, ◌&&◌, List, [], ◌∷◌, ◌++◌, Option, Some, None, refl, sym, ap, subst, ◌∙◌, arith, inl, inr, ◌⊎◌}
+use Rattle.std.proofs.Common.{◌≡◌, ℕ, ◌+◌, ◌≤◌, true, false, eqb, leb, ◌&&◌, List, [], ◌∷◌, ◌++◌, Option, Some, None, refl, sym, ap, subst, ◌∙◌, arith, inl, inr, ◌⊎◌}
 use Rattle.std.specs.Prelude.{find, count_by, Contains, IsSomeAnd}
 use Rattle.std.specs.List.{AllByRecursion}
-use Rattle.std.proofs.lemmas.Bool.{cases_Bool, eq-eqb, eqb-true, and_parts}
+use Rattle.std.proofs.lemmas.Bool.{cases_Bool, eq-eqb, eqb-true, and_parts, leb-true, leb-false}
 use Rattle.std.proofs.lemmas.List.{append-nil}
 use Rattle.limiter_num.specs.declared.rules.Rules.{Rules}
 use Rattle.limiter_num.specs.Timers.{tmin, tmax, last_act}
@@ -10,17 +10,12 @@ use Rattle.plant_book.specs.Sums.{last_that}
 use Rattle.plant_book.specs.Site.{SiteRecord, floor_raw_at}
 use Rattle.plant_book.specs.History.{History, Grant, Sight, grants, sights, is_granted_after, link_of_grant, link_of_sight}
 use Rattle.plant_book.specs.Behaviour.{Event, Act, Revert, Look, Timed, is_change, IsAct, IsAsked, is_look_of, held, held_by}
-use Rattle.plant_simulation.specs.Devices.{FollowsDevice}
+use Rattle.inverter_sim.specs.HeldLimit.{limit_at}
+use Rattle.inverter_sim.specs.Following.{FollowsDevice, HasFollowed, IsInTolerance, IsLonger, IsNewSight, IsRunning, IsTimer, MayAct, act_at, look_at, revert_at, revert_by}
 use Rattle.plant_book.proofs.Places.{last_that-is, count_by-append, count_by-none}
 use Rattle.plant_book.proofs.Steps.{last_that-push}
 use Rattle.plant_book.proofs.Last.{some_is}
-use Rattle.plant_book.proofs.Growing.{IsStart, InTime, start_push, behaviour_of, act_may, revert_may, look_may, all_map, all_push}
-
--- with a longer history it did the same
-pub record IsLonger (old new : History) : Type 0 where
-  pub site : new.life.site ≡ old.life.site
-  pub grants : (grant : Grant) → Contains (grants old) grant → Contains (grants new) grant
-  pub sights : (sight : Sight) → Contains (sights old) sight → Contains (sights new) sight
+use Rattle.plant_book.proofs.Growing.{IsStart, start_empty, InTime, start_push, behaviour_of, act_may, revert_may, look_may, all_map, all_push}
 
 abbrev RevertsBy : List Timed → Rules → Type 0
 RevertsBy events rules = (before after : List Timed) (at : ℕ) → events ≡ before ++ record { at = at; event = Revert } ∷ after
@@ -40,36 +35,6 @@ module _ (old new : History) (longer : IsLonger old new) (inverter : ℕ) (event
     reverts = subst (λ (s : SiteRecord). RevertsBy events s.rules) (sym longer.site) start.reverts;
     shown = λ before after at sight is. ap (λ (s : SiteRecord). held s inverter before) longer.site ∙ start.shown before after at sight is;
   }
-
--- a timer that runs, and when it runs out
-pub record IsRunning (rules : Rules) (now due : ℕ) (events : List Timed) : Type 0 where
-  pub acted : ℕ
-  pub grant : Grant
-  pub last : last_that is_change events ≡ Some (record { at = acted; event = Act grant })
-  pub from : acted + tmin rules ≤ due
-  pub until : due ≤ acted + tmax rules
-  pub to_come : now ≤ due
-
-abbrev pub IsTimer : Rules → ℕ → List Timed → Option ℕ → Type 0
-IsTimer rules now events None = (at : ℕ) (grant : Grant) → last_that is_change events ≡ Some (record { at = at; event = Act grant }) → ⊥
-IsTimer rules now events (Some due) = IsRunning rules now due events
-
--- what it did up to now, what it holds, and when its timer runs out
-pub record Does (history : History) (inverter now raw : ℕ) (due : Option ℕ) (events : List Timed) : Type 0 where
-  pub start : IsStart history inverter events
-  pub until : AllByRecursion (λ timed. timed.at ≤ now) events
-  pub once : (sight : Sight) → Contains (sights history) sight → sight.read.inverter ≡ inverter → count_by (λ timed. is_look_of sight timed.event) events ≡ 1
-  pub holds : held history.life.site inverter events ≡ raw
-  pub timer : IsTimer history.life.site.rules now events due
-
-abbrev act_at : ℕ → Grant → Timed
-act_at at grant = record { at = at; event = Act grant }
-
-abbrev revert_at : ℕ → Timed
-revert_at at = record { at = at; event = Revert }
-
-abbrev look_at : ℕ → Sight → Timed
-look_at at sight = record { at = at; event = Look sight }
 
 no_act : (a b : ℕ) (grant : Grant) → revert_at a ≡ act_at b grant → ⊥
 no_act a b grant is = let never = ap (λ (t : Timed). t.event) is in cc
@@ -91,7 +56,7 @@ module _ (history : History) (inverter now : ℕ) (events : List Timed) where
     later_timer later None to_come timer = timer
     later_timer later (Some due) to_come timer = record { acted = timer.acted; grant = timer.grant; last = timer.last; from = timer.from; until = timer.until; to_come = to_come due refl }
 
-    pub does_later : (later : ℕ) (due : Option ℕ) → now ≤ later → ((moment : ℕ) → due ≡ Some moment → later ≤ moment) → Does history inverter now raw due events → Does history inverter later raw due events
+    pub does_later : (later : ℕ) (due : Option ℕ) → now ≤ later → ((moment : ℕ) → due ≡ Some moment → later ≤ moment) → HasFollowed history inverter now raw due events → HasFollowed history inverter later raw due events
     does_later later due le to_come does = record {
       start = does.start;
       until = all_until later le does.until;
@@ -100,7 +65,7 @@ module _ (history : History) (inverter now : ℕ) (events : List Timed) where
       timer = later_timer later due to_come does.timer;
     }
 
-    module _ (due : ℕ) (does : Does history inverter now raw (Some due) events) where
+    module _ (due : ℕ) (does : HasFollowed history inverter now raw (Some due) events) where
       abbrev ran_out : List Timed
       ran_out = events ++ revert_at due ∷ []
 
@@ -117,7 +82,7 @@ module _ (history : History) (inverter now : ℕ) (events : List Timed) where
       revert_timer at grant is = no_act due at grant (some_is (revert_at due) (act_at at grant) (sym (last_push (revert_at due) refl) ∙ is))
 
       -- the timer runs out
-      pub does_revert : (later : ℕ) → due ≤ later → Does history inverter later (floor_raw_at history.life.site inverter) None ran_out
+      pub does_revert : (later : ℕ) → due ≤ later → HasFollowed history inverter later (floor_raw_at history.life.site inverter) None ran_out
       unfolding held
       does_revert later le = record {
         start = revert_start;
@@ -137,7 +102,7 @@ module _ (history : History) (inverter now : ℕ) (events : List Timed) where
         holds = does.holds;
       }
 
-    ends_still : Does history inverter now raw None events → FollowsDevice history inverter now raw
+    ends_still : HasFollowed history inverter now raw None events → FollowsDevice history inverter now raw
     ends_still does = record {
       events = events;
       first = events;
@@ -147,7 +112,7 @@ module _ (history : History) (inverter now : ℕ) (events : List Timed) where
       holds = does.holds;
     }
 
-    pub does_end : (due : Option ℕ) → Does history inverter now raw due events → FollowsDevice history inverter now raw
+    pub does_end : (due : Option ℕ) → HasFollowed history inverter now raw due events → FollowsDevice history inverter now raw
     does_end None does = ends_still does
     does_end (Some due) does = ends_running due does
 
@@ -162,10 +127,10 @@ module _ (history : History) (inverter now : ℕ) (events : List Timed) where
             omega (arith, timer.to_come, timer.until, ap (λ (t : Timed). t.at) same)
 
     -- a write acts
-    pub does_act : (due : Option ℕ) → Does history inverter now raw due events → (grant : Grant) (revert : ℕ) → Contains (grants history) grant → grant.write.inverter ≡ inverter → grant.write.at ≤ now → now ≤ last_act rules grant.write.at
+    pub does_act : (due : Option ℕ) → HasFollowed history inverter now raw due events → (grant : Grant) (revert : ℕ) → Contains (grants history) grant → grant.write.inverter ≡ inverter → grant.write.at ≤ now → now ≤ last_act rules grant.write.at
         → AllByRecursion (λ timed. (number : ℕ) → IsAsked timed.event (link_of_grant grant) number → number ≤ grant.write.number) events
         → now + tmin rules ≤ revert → revert ≤ now + tmax rules → now ≤ revert
-        → Does history inverter now grant.write.raw (Some revert) (events ++ act_at now grant ∷ [])
+        → HasFollowed history inverter now grant.write.raw (Some revert) (events ++ act_at now grant ∷ [])
     unfolding held
     does_act due does grant revert granted its from until numbers low high to_come = record {
       start = start_push history inverter events (act_at now grant) does.start (act_may history inverter events now does.until grant granted its from until numbers (in_time due does.timer));
@@ -175,13 +140,53 @@ module _ (history : History) (inverter now : ℕ) (events : List Timed) where
       timer = record { acted = now; grant = grant; last = last_push (act_at now grant) refl; from = low; until = high; to_come = to_come };
     }
 
+-- before anything acted the floor is held
+pub does_begin : (history : History) (inverter now : ℕ) → ((sight : Sight) → Contains (sights history) sight → sight.read.inverter ≡ inverter → ⊥)
+    → HasFollowed history inverter now (floor_raw_at history.life.site inverter) None []
+unfolding last_that held
+does_begin history inverter now none = record {
+  start = start_empty history inverter;
+  until = tt;
+  once = λ sight within mine. absurd (none sight within mine);
+  holds = refl;
+  timer = λ at grant is. absurd cc;
+}
+
+-- time passes, and with it the revert comes that is due
+module _ (history : History) (inverter now later : ℕ) (events : List Timed) (le : now ≤ later) where
+  abbrev its_floor : ℕ
+  its_floor = floor_raw_at history.life.site inverter
+
+  waits : (due : ℕ) → leb due later ≡ false → (moment : ℕ) → Some due ≡ Some moment → later ≤ moment
+  waits due late moment is = let less = leb-false due later late in let one : due ≡ moment = cc in omega (arith, less, one)
+
+  never : (moment : ℕ) → None ≡ Some moment → later ≤ moment
+  never moment is = absurd cc
+
+  pub does_pass : (raw : ℕ) (due : Option ℕ) → HasFollowed history inverter now raw due events
+      → HasFollowed history inverter later (limit_at its_floor later (record { raw = raw; revert = due })).raw (limit_at its_floor later (record { raw = raw; revert = due })).revert
+      (events ++ revert_by later due)
+  does_pass raw None does = rw (append-nil events) (does_later history inverter now events raw later None le never does)
+  does_pass raw (Some due) does =
+      elim (cases_Bool (leb due later)) [
+        | inl early ↦ rw early (does_revert history inverter now events raw due does later (leb-true due later early))
+        | inr late ↦ rw (late, append-nil events) (does_later history inverter now events raw later (Some due) le (waits due late) does)
+      ]
+
+-- a write that may act does
+pub does_may : (history : History) (inverter now raw : ℕ) (due : Option ℕ) (events : List Timed) → HasFollowed history inverter now raw due events
+    → (grant : Grant) → MayAct history inverter now events grant → (revert : ℕ) → IsInTolerance history.life.site.rules now revert
+    → HasFollowed history inverter now grant.write.raw (Some revert) (events ++ act_at now grant ∷ [])
+does_may history inverter now raw due events does grant may revert within =
+    does_act history inverter now events raw due does grant revert may.granted may.its may.from may.until may.numbers within.low within.high within.to_come
+
 -- a longer history, in which no other read of the inverter was answered
-module _ (old new : History) (longer : IsLonger old new) (inverter now raw : ℕ) (due : Option ℕ) (events : List Timed) (does : Does old inverter now raw due events) where
+module _ (old new : History) (longer : IsLonger old new) (inverter now raw : ℕ) (due : Option ℕ) (events : List Timed) (does : HasFollowed old inverter now raw due events) where
   same_timer : (o : Option ℕ) → IsTimer old.life.site.rules now events o → IsTimer new.life.site.rules now events o
   same_timer None timer = timer
   same_timer (Some due) timer = subst (λ (s : SiteRecord). IsRunning s.rules now due events) (sym longer.site) timer
 
-  pub does_longer : ((sight : Sight) → Contains (sights new) sight → sight.read.inverter ≡ inverter → Contains (sights old) sight) → Does new inverter now raw due events
+  pub does_longer : ((sight : Sight) → Contains (sights new) sight → sight.read.inverter ≡ inverter → Contains (sights old) sight) → HasFollowed new inverter now raw due events
   does_longer same = record {
     start = start_longer old new longer inverter events does.start;
     until = does.until;
@@ -202,16 +207,7 @@ differ a b c d other =
       | inr is ↦ is
     ]
 
--- a read is answered that shows what is held
-pub record IsNewSight (old new : History) (inverter : ℕ) (sight : Sight) : Type 0 where
-  pub longer : IsLonger old new
-  pub seen : Contains (sights new) sight
-  pub its : sight.read.inverter ≡ inverter
-  pub other : (one : Sight) → Contains (sights old) one → one.life ≡ sight.life → one.place ≡ sight.place → ⊥
-  pub only : (one : Sight) → Contains (sights new) one → Contains (sights old) one ⊎ (one ≡ sight)
-  pub not_after : (grant : Grant) → Contains (grants old) grant → is_granted_after sight grant ≡ false
-
-module _ (old new : History) (inverter now raw : ℕ) (due : Option ℕ) (events : List Timed) (does : Does old inverter now raw due events) (sight : Sight) (is : IsNewSight old new inverter sight) where
+module _ (old new : History) (inverter now raw : ℕ) (due : Option ℕ) (events : List Timed) (does : HasFollowed old inverter now raw due events) (sight : Sight) (is : IsNewSight old new inverter sight) where
   abbrev looked : List Timed
   looked = events ++ look_at now sight ∷ []
 
@@ -257,7 +253,7 @@ module _ (old new : History) (inverter now raw : ℕ) (due : Option ℕ) (events
 
   pub does_look : sight.read.at ≤ now → now ≤ sight.at → sight.raw ≡ raw
       → AllByRecursion (λ timed. (number : ℕ) → IsAsked timed.event (link_of_sight sight) number → number ≤ sight.read.number) events
-      → Does new inverter now raw due looked
+      → HasFollowed new inverter now raw due looked
   unfolding held
   does_look from until shows numbers =
       let same_held : held new.life.site inverter events ≡ raw = ap (λ (s : SiteRecord). held s inverter events) is.longer.site ∙ does.holds in
