@@ -15,7 +15,8 @@ use Rattle.inverter_sim.specs.Following.{FollowsDevice, HasFollowed, IsInToleran
 use Rattle.plant_book.proofs.Places.{last_that-is, count_by-append, count_by-none}
 use Rattle.plant_book.proofs.Steps.{last_that-push}
 use Rattle.plant_book.proofs.Last.{some_is}
-use Rattle.plant_book.proofs.Growing.{IsStart, start_empty, InTime, start_push, behaviour_of, act_may, revert_may, look_may, all_map, all_push}
+use Rattle.plant_book.specs.Start.{IsStart, InTime}
+use Rattle.plant_book.proofs.Growing.{start_empty, start_push, behaviour_of, act_may, revert_may, look_may, all_map, all_push}
 
 abbrev RevertsBy : List Timed → Rules → Type 0
 RevertsBy events rules = (before after : List Timed) (at : ℕ) → events ≡ before ++ record { at = at; event = Revert } ∷ after

@@ -7,7 +7,7 @@ use Rattle.plant_book.specs.Sums.{last_that}
 use Rattle.plant_book.specs.History.{History, Grant, Sight, grants, sights, is_granted_after, link_of_grant, link_of_sight}
 use Rattle.plant_book.specs.Behaviour.{Event, Act, Revert, Look, Timed, IsAsked, IsBehaviour, is_change, is_look_of, held}
 use Rattle.plant_book.specs.Held.{IsCut}
-use Rattle.plant_book.proofs.Growing.{IsStart}
+use Rattle.plant_book.specs.Start.{IsStart}
 use Rattle.modbus_pdu.specs.declared.pdu.Request.{Request}
 use Rattle.modbus_pdu.specs.declared.pdu.Request.TheVariants.{WriteRegs}
 use Rattle.der_models.specs.Limit.{limit_registers}

@@ -6,7 +6,8 @@ use Rattle.limiter_num.specs.Timers.{tmax, last_act}
 use Rattle.plant_book.specs.Sums.{last_that}
 use Rattle.plant_book.specs.History.{History, Grant, Sight, grants, is_granted_after}
 use Rattle.plant_book.specs.Behaviour.{Act, Revert, Look, Timed, is_change, is_look_of, held, IsBehaviour, acts_last, acts_and_shows, IsUnseen, MayShow}
-use Rattle.plant_book.proofs.Growing.{tmin_le-tmax, IsStart, nothing_stands, start_empty, start_push, behaviour_of, act_may, revert_may, look_may}
+use Rattle.plant_book.specs.Start.{IsStart}
+use Rattle.plant_book.proofs.Growing.{tmin_le-tmax, nothing_stands, start_empty, start_push, behaviour_of, act_may, revert_may, look_may}
 
 timed_alike : (a b : Timed) → Some a ≡ Some b → a ≡ b
 timed_alike a b is = cc

@@ -29,7 +29,8 @@ use Rattle.plant_book.proofs.Freeing.{Contains-filter}
 use Rattle.plant_book.proofs.Cover.{granted_by}
 use Rattle.plant_book.proofs.Last.{last_that-stands, none_from_last, some_is}
 use Rattle.plant_book.proofs.Places.{Same, Before, After, places, last_that-is, find_none-append, count_by-append, count_by-none}
-use Rattle.plant_book.proofs.Growing.{tmin_le-tmax, has_place, AtLast, Sooner, push_places, IsStart, start_push, start_of, behaviour_of, all_map, all_push, act_may, revert_may}
+use Rattle.plant_book.specs.Start.{IsStart}
+use Rattle.plant_book.proofs.Growing.{tmin_le-tmax, has_place, AtLast, Sooner, push_places, start_push, start_of, behaviour_of, all_map, all_push, act_may, revert_may}
 use Rattle.plant_book.proofs.Behaviours.{revert_is_no_act, no_act}
 use Rattle.plant_book.proofs.Numbers.{number_rises, request_is_no_link, IsReadAt, read_is_at, StandsAt, stands_at, grant_within, grant_at, SightAt, sight_at, ReadAt, read_at, last_that_passes, read_inverter, grant_is_no_sight}
 

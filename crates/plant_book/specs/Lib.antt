@@ -21,3 +21,4 @@ pub mod Safe
 pub mod Covered
 pub mod Lifetime
 pub mod Tight
+pub mod Start
