@@ -306,6 +306,12 @@ impl Plant {
         self.ledger.book()
     }
 
+    /// How many writes the queue of last moments has.
+    #[cfg(test)]
+    pub(crate) fn queued(&self) -> usize {
+        self.ledger.queued()
+    }
+
     /// The moment at which the life begins, in ms.
     pub fn start(&self) -> u64
         ensures { result ≡ self.now.start }

@@ -90,7 +90,7 @@ impl Ledger {
         }
     }
 
-    /// The same of all inverters in the order of their numbers.
+    /// The same of all inverters in the order of their numbers, in a step for each, at most 64.
     pub fn fall_claims(&self) -> ArrayVec<Claim, INVERTERS_MAX>
         ensures claims { result.items ≡ rule.fall_claims self.now.book.site }
         ensures feasible { EachBook self.now.book

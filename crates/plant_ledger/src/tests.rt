@@ -194,4 +194,45 @@ fn a_call_costs_the_same_in_a_long_book(rt: HostRuntime) -> Result<(), Fail> {
     Ok(())
 }
 
+/// Asks for a write at these moments, and gives each back at once. Answers whether all were granted and taken.
+fn ask_and_give_back(rt: &impl Abort, plant: &mut Plant, from: u64, count: u64) -> bool {
+    let mut all = true;
+    for step in 0..count {
+        let at = from.saturating_add(step);
+        let ask = Call::Ask {
+            at,
+            inverter: 0,
+            raw: 1_000,
+        };
+        let Ok(Reply::Granted(write)) = enter(rt, plant, ask) else {
+            return false;
+        };
+        let back = Call::Back {
+            at,
+            inverter: 0,
+            link: write.link,
+            number: write.number,
+        };
+        all = all && enter(rt, plant, back) == Ok(Reply::Taken);
+    }
+    all
+}
+
+#[test]
+fn writes_given_back_leave_the_queue(rt: HostRuntime) -> Result<(), Fail> {
+    let mut plant = opened(rt.alloc(), 10_000_000, Policy::Open, 10_000).ok_or("open")?;
+    let link = Call::Link { at: 0, inverter: 0 };
+    assert_eq!(rt; enter(&rt, &mut plant, link), Ok(Reply::Linked(1)));
+    assert!(rt; ask_and_give_back(&rt, &mut plant, 66_701, 2_100));
+    assert_eq!(rt; (plant.queued(), plant.total()), (0, 1_200_000));
+    let ask = Call::Ask {
+        at: 70_000,
+        inverter: 0,
+        raw: 1_000,
+    };
+    assert!(rt; matches!(enter(&rt, &mut plant, ask), Ok(Reply::Granted(_))));
+    assert_eq!(rt; plant.queued(), 1);
+    Ok(())
+}
+
 mod plain;
