@@ -91,9 +91,8 @@ impl Lives {
         &self.plant
     }
 
-    /// Ends the life and begins the next one at a moment in ms: with an empty book, and with nothing
-    /// remembered but
-    /// the site. The ended plant is handed back with its book.
+    /// Ends the life and begins the next one at a moment in ms: with an empty book, and with nothing remembered
+    /// but the site. The ended plant is handed back with its book.
     pub fn restart(&mut self, alloc: Global, at: u64) -> Result<Plant, RestartFault>
         requires moment { at ≤ MOMENT_MAX }
         ensures ended { IfOk result (λ ended. ended ≡ self.old) }
@@ -108,9 +107,8 @@ impl Lives {
             ⊎ ((last_moment_of self.old ≤ at) × (fault ≡ RestartFault.NoMemory))) }
         ensures unchanged { OnErr result (self.new ≡ self.old) }
 
-        // Whatever lives came before: with the next one they are a history, safe at every moment. What is
-        // still live of
-        // the ended book is a past that fits.
+        // Whatever lives came before: with the next one they are a history, safe at every moment. What is still
+        // live of the ended book is a past that fits.
         ensures chain { OnOk result (Restarts (first_book self.old) (first_book self.new)) }
         ensures past { OnOk result (IsPast self.new.site self.new.start (still_live (first_book self.old))) }
     {
