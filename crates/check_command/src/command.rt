@@ -28,6 +28,7 @@ fn check_file<S: Source, O: Sink>(alloc: Global, input: &mut S, out: &mut O) -> 
     ensures nothing { (result ≡ Ended.Done → ⊥) → (result ≡ Ended.WriteFault → ⊥) → out.new ≡ out.old }
     ensures read_faults_stay { S.faults input.old ≤ S.faults input.new }
     ensures write_faults_stay { O.faults out.old ≤ O.faults out.new }
+    ensures stops { O.faults out.old ≡ 0 → O.late out.new ≡ O.late out.old }
 {
     let file = match read_site(alloc, input) {
         Ok(file) => file,
@@ -52,6 +53,7 @@ pub fn check<S: Source, O: Sink>(alloc: Global, input: &mut S, out: &mut O) -> E
     ensures nothing { (result ≡ Ended.Done → ⊥) → (result ≡ Ended.WriteFault → ⊥) → out.new ≡ out.old }
     ensures read_faults_stay { S.faults input.old ≤ S.faults input.new }
     ensures write_faults_stay { O.faults out.old ≤ O.faults out.new }
+    ensures stops { O.faults out.old ≡ 0 → O.late out.new ≡ O.late out.old }
 {
     check_file(alloc, input, out)
 }

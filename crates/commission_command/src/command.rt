@@ -45,8 +45,9 @@ fn commission_inverter<O: Sink, N: Dialer>(
     dialer: &mut N,
 ) -> Ended
     requires { IsInRange file }
-    ensures { CommissionsOne file inverter (change O.taken O.faults out.old out.new)
+    ensures commissions { CommissionsOne file inverter (change O.taken O.faults out.old out.new)
         (dialing N.links N.faults dialer.old dialer.new) result }
+    ensures stops { O.faults out.old ≡ 0 → O.late out.new ≡ O.late out.old }
 {
     match find_inverter(file, inverter) {
         Ok(job) => end(commission_run::commission(job, dialer, out)),
@@ -67,6 +68,7 @@ pub fn commission<S: Source, O: Sink, N: Dialer>(
         (change O.taken O.faults out.old out.new) (dialing N.links N.faults dialer.old dialer.new) result }
     ensures due { IsCommissionDue inverter (change S.left S.faults site.old site.new)
         (change O.taken O.faults out.old out.new) (dialing N.links N.faults dialer.old dialer.new) result }
+    ensures stops { O.faults out.old ≡ 0 → O.late out.new ≡ O.late out.old }
 {
     match read_site(alloc, site) {
         Ok(file) => commission_inverter(file, inverter, out, dialer),

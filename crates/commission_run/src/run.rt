@@ -32,9 +32,11 @@ use world_traits::{Dialer, Sink, send_whole};
 pub fn commission<N: Dialer, O: Sink>(job: Job, dialer: &mut N, out: &mut O) -> Result<(), Stop>
     requires { job.port.base ≤ 65514 }
 
-    // A failed dial, send, receive or write is answered exactly where one failed.
+    // A failed dial, send, receive or write is answered exactly where one failed. After a write that failed nothing more
+    // is written.
     ensures dialer_faults { HasCause (N.faults dialer.old) (N.faults dialer.new) (at_dialer result) }
     ensures output_faults { HasCause (O.faults out.old) (O.faults out.new) (at_output result) }
+    ensures stops { O.faults out.old ≡ 0 → O.late out.new ≡ O.late out.old }
 
     // A dial that failed made no link, and nothing was written.
     ensures no_link { result ≡ Err (Stop.Refused Refusal.Dial)
@@ -71,6 +73,7 @@ fn converse<N: Dialer, O: Sink>(job: Job, dialer: &mut N, out: &mut O) -> Result
         × IsCourse (target_of job) job.inverter result frames link (O.taken out.old) (O.taken out.new) }
     ensures dialer_faults { HasCause (N.faults dialer.old) (N.faults dialer.new) (at_dialer result) }
     ensures output_faults { HasCause (O.faults out.old) (O.faults out.new) (at_output result) }
+    ensures stops { O.faults out.old ≡ 0 → O.late out.new ≡ O.late out.old }
 {
     let Job {
         inverter,
@@ -133,6 +136,7 @@ fn take<N: Dialer, O: Sink>(
         (O.taken out.old) (O.taken out.new) }
     ensures dialer_faults { HasCause (N.faults dialer.old) (N.faults dialer.new) (at_dialer result) }
     ensures output_faults { HasCause (O.faults out.old) (O.faults out.new) (at_output result) }
+    ensures stops { O.faults out.old ≡ 0 → O.late out.new ≡ O.late out.old }
 {
     let had = commission.found();
     let took = commission.took(frame);
@@ -171,6 +175,7 @@ fn write_found<O: Sink>(
     ensures front { OnErr result (AppendsFront (O.taken out.old) (O.taken out.new) (gained_text had found)) }
     ensures due { OnErr result (IsSome found × (had ≡ None) × (result ≡ Err Stop.WriteFailed)) }
     ensures cause { HasCause (O.faults out.old) (O.faults out.new) result }
+    ensures stops { O.faults out.old ≡ 0 → O.late out.new ≡ O.late out.old }
 {
     match (had, found) {
         (None, Some(found)) => write_line(out, &found_text(&found)),
@@ -184,6 +189,7 @@ fn write_line<O: Sink>(out: &mut O, line: &Line) -> Result<(), Stop>
     ensures front { OnErr result (AppendsFront (O.taken out.old) (O.taken out.new) line.now) }
     ensures failed { OnErr result (result ≡ Err Stop.WriteFailed) }
     ensures cause { HasCause (O.faults out.old) (O.faults out.new) result }
+    ensures stops { O.faults out.old ≡ 0 → O.late out.new ≡ O.late out.old }
 {
     match write_whole(out, line.as_slice()) {
         Ok(()) => Ok(()),

@@ -30,6 +30,7 @@ fn run_task<S: Source, O: Sink, N: Dialer, K: Clock>(
     ensures due { IsTaskDue task (change S.left S.faults site.old site.new) (change O.taken O.faults out.old out.new)
         (dialing N.links N.faults dialer.old dialer.new) result }
     ensures silent { IsSilent task → out.new ≡ out.old }
+    ensures stops { O.faults out.old ≡ 0 → O.late out.new ≡ O.late out.old }
 {
     match task {
         Task::Commission { inverter } => commission(alloc, inverter, site, out, dialer),
@@ -52,6 +53,7 @@ fn run_with_first<S: Source, O: Sink, N: Dialer, K: Clock>(
     ensures due { IsTaskDue task (change S.left S.faults site.old site.new) (change O.taken O.faults out.old out.new)
         (first_dialing N.links N.faults dialers.old.items dialers.new.items) result }
     ensures silent { IsSilent task → out.new ≡ out.old }
+    ensures stops { O.faults out.old ≡ 0 → O.late out.new ≡ O.late out.old }
     ensures other_dialers { drop 1 dialers.new.items ≡ drop 1 dialers.old.items }
     ensures as_many { length dialers.new.items ≡ 64 }
 {
@@ -84,6 +86,9 @@ pub fn live<S: Source, C: Source + Send, O: Sink + Send, N: Dialer + Send, K: Cl
     ensures other_dialers { ((turns : ℕ) → AreRun (map string_bytes words.now.items) turns → ⊥)
         → drop 1 dialers.new.items ≡ drop 1 dialers.old.items }
     ensures as_many { length dialers.new.items ≡ 64 }
+
+    // After a write that failed nothing more is written.
+    ensures stops { O.faults out.old ≡ 0 → O.late out.new ≡ O.late out.old }
 
     // Of each command: what its end says of the bytes that were read, of the output and of the links, and which end
     // comes.

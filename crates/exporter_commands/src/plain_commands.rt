@@ -32,11 +32,13 @@ pub fn plain<S: Source, O: Sink>(
         × ((simulation : Simulation) → AreSimulate (map string_bytes words.now.items) simulation → ⊥)) }
     ensures unread { (AskToRead (map string_bytes words.now.items) → ⊥) → input.new ≡ input.old }
 
-    // Nothing is written but at Done, BookFull and WriteFault. The counts of faults only rise.
+    // Nothing is written but at Done, BookFull and WriteFault, nor after a write that failed. The counts of faults only
+    // rise.
     ensures nothing { (result ≡ Ended.Done → ⊥) → ((calls : ℕ) → result ≡ Ended.BookFull calls → ⊥)
         → (result ≡ Ended.WriteFault → ⊥) → out.new ≡ out.old }
     ensures read_faults_stay { S.faults input.old ≤ S.faults input.new }
     ensures write_faults_stay { O.faults out.old ≤ O.faults out.new }
+    ensures stops { O.faults out.old ≡ 0 → O.late out.new ≡ O.late out.old }
 
     // Of each command: what its end says of the bytes that were read and of the output, and which end comes.
     ensures replay { AreReplay (map string_bytes words.now.items) → (read : List ℕ) × IsReplayEnd result read

@@ -57,6 +57,7 @@ fn replay_input<S: Source, O: Sink>(alloc: Global, input: &mut S, out: &mut O) -
         → (result ≡ Ended.WriteFault → ⊥) → out.new ≡ out.old }
     ensures read_faults_stay { S.faults input.old ≤ S.faults input.new }
     ensures write_faults_stay { O.faults out.old ≤ O.faults out.new }
+    ensures stops { O.faults out.old ≡ 0 → O.late out.new ≡ O.late out.old }
 {
     let bytes = match read_whole(alloc, input, SCRIPT_MAX) {
         Ok(bytes) => bytes,
@@ -84,6 +85,7 @@ pub fn replay<S: Source, O: Sink>(alloc: Global, input: &mut S, out: &mut O) -> 
         → (result ≡ Ended.WriteFault → ⊥) → out.new ≡ out.old }
     ensures read_faults_stay { S.faults input.old ≤ S.faults input.new }
     ensures write_faults_stay { O.faults out.old ≤ O.faults out.new }
+    ensures stops { O.faults out.old ≡ 0 → O.late out.new ≡ O.late out.old }
 {
     one_replay();
     room_is_enough();

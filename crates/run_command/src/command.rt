@@ -25,7 +25,8 @@ fn end(ran: RunEnd, written: bool) -> Ended
 /// Writes the text of a run, and tells how the command ends.
 fn tell<O: Sink>(alloc: Global, ran: &Ran, out: &mut O) -> Ended
     requires { IsBook (first_book ran.now.plant) }
-    ensures { IsTold ran.now.plant ran.now.workers.items (change O.taken O.faults out.old out.new) result }
+    ensures told { IsTold ran.now.plant ran.now.workers.items (change O.taken O.faults out.old out.new) result }
+    ensures stops { O.faults out.old ≡ 0 → O.late out.new ≡ O.late out.old }
 {
     let Ok(text) = run_text(alloc, ran) else {
         return Ended::NoMemory;
@@ -47,6 +48,7 @@ fn run_plant<S: Source, O: Sink, N: Dialer, K: Clock>(
     ensures ends { (read : List ℕ) × IsRunEnd N.links N.faults (K.may_give clock.now) turns read
         (change S.left S.faults site.old site.new) (change O.taken O.faults out.old out.new)
         dialers.old.items dialers.new.items result }
+    ensures stops { O.faults out.old ≡ 0 → O.late out.new ≡ O.late out.old }
 {
     let file = match read_site(alloc, site) {
         Ok(file) => file,
@@ -72,6 +74,7 @@ pub fn run<S: Source, O: Sink, N: Dialer, K: Clock>(
     ensures ends { (read : List ℕ) × IsRunEnd N.links N.faults (K.may_give clock.now) turns read
         (change S.left S.faults site.old site.new) (change O.taken O.faults out.old out.new)
         dialers.old.items dialers.new.items result }
+    ensures stops { O.faults out.old ≡ 0 → O.late out.new ≡ O.late out.old }
     ensures due { IsRunDue result (change S.left S.faults site.old site.new)
         (change O.taken O.faults out.old out.new) }
     ensures as_many { length dialers.new.items ≡ 64 }

@@ -58,6 +58,7 @@ pub fn simulate<O: Sink>(alloc: Global, simulation: Simulation, out: &mut O) -> 
     ensures due { IsSimulateDue result (change O.taken O.faults out.old out.new) }
     ensures nothing { (result ≡ Ended.Done → ⊥) → (result ≡ Ended.WriteFault → ⊥) → out.new ≡ out.old }
     ensures write_faults_stay { O.faults out.old ≤ O.faults out.new }
+    ensures stops { O.faults out.old ≡ 0 → O.late out.new ≡ O.late out.old }
 {
     let Ok(text) = text_of(alloc, simulation) else {
         return Ended::NoMemory;

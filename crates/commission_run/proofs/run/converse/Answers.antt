@@ -51,6 +51,7 @@ loop-commission-init g c =
           (Appends-nil (g.O.Sink.taken c.args.out.now));
       dialer_kept = c.in_ok-ask.ensures.cause.kept;
       output_kept = refl;
+      stops = λ none. refl;
       bound = subst (λ (held : List ℕ). length held < 520) (sym c.new-inbox.ensures) (omega arith);
     }
 
@@ -90,6 +91,7 @@ loop-commission-preserved g c =
       written = c.loop-commission.invariant.written;
       dialer_kept = c.in_ok-frame.ensures.cause.kept ∙ c.loop-commission.invariant.dialer_kept;
       output_kept = c.loop-commission.invariant.output_kept;
+      stops = c.loop-commission.invariant.stops;
       bound = c.in_ok-frame.ensures.bound;
     }
 
@@ -125,6 +127,7 @@ loop-commission-preserved-in-Continue-branch-4 g c =
           c.in_ok-take.ensures.step handled.2));
       dialer_kept = c.in_ok-take.ensures.dialer_faults.kept ∙ c.in_ok-frame.ensures.cause.kept ∙ c.loop-commission.invariant.dialer_kept;
       output_kept = c.in_ok-take.ensures.output_faults.kept ∙ c.loop-commission.invariant.output_kept;
+      stops = λ none. c.in_ok-take.ensures.stops (c.loop-commission.invariant.output_kept ∙ none) ∙ c.loop-commission.invariant.stops none;
       bound = c.in_ok-frame.ensures.bound;
     }
 

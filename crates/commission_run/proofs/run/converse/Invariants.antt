@@ -19,6 +19,7 @@ invariant-loop-commission g l = record {
   written : Appends (g.O.Sink.taken l.fn.out) (g.O.Sink.taken l.out) (found_text (found_at l.commission.stage));
   dialer_kept : g.N.Dialer.faults l.dialer ≡ g.N.Dialer.faults l.fn.dialer;
   output_kept : g.O.Sink.faults l.out ≡ g.O.Sink.faults l.fn.out;
+  stops : g.O.Sink.faults l.fn.out ≡ 0 → g.O.Sink.late l.out ≡ g.O.Sink.late l.fn.out;
   bound : length l.inbox < 520;
 }
 

@@ -17,6 +17,7 @@ returns-in-Commission g c =
       );
       due = subst (λ (task : Task). IsTaskDue task site output dials c.commission.result) (sym c.in-Commission.is) c.commission.ensures.due;
       silent = λ silent. absurd (subst IsSilent c.in-Commission.is silent);
+      stops = c.commission.ensures.stops;
     }
 
 pub returns-in-Serve : goal.returns-in-Serve
@@ -31,4 +32,5 @@ returns-in-Serve g c =
       );
       due = subst (λ (task : Task). IsTaskDue task site output dials c.serve.result) (sym c.in-Serve.is) c.serve.ensures.due;
       silent = λ silent. refl;
+      stops = λ none. refl;
     }
