@@ -4,14 +4,12 @@
 //! the words of the command line, the standard streams, the site file, TCP connections and the clock.
 #![tactic(auto)]
 
-mod adapters;
 mod command_line;
-mod real;
 
-use crate::adapters::{BootClock, Calling, Listening, Opened, Opener, TcpDialer};
 use crate::command_line::words;
-use crate::real::{Input, Output};
 use exporter_commands::{Ended, live, plain, status};
+use host_adapters::{BootClock, Calling, Input, Listening, Opened, Opener, Output, TcpDialer};
+use std::net::TcpStream;
 use std::process::ExitCode;
 use world_traits::Clock;
 
@@ -22,7 +20,7 @@ const DIALERS: usize = 64;
 const SITE: &str = "site.toml";
 
 /// Does what the words ask for over links that come about in this way.
-fn run_live<C: Opener<Runtime = HostRuntime> + Send, K: Clock + Sync>(
+fn run_live<C: Opener<Runtime = HostRuntime, Stream = TcpStream> + Send, K: Clock + Sync>(
     rt: &HostRuntime,
     words: &Vec<String>,
     clock: &K,
@@ -30,7 +28,7 @@ fn run_live<C: Opener<Runtime = HostRuntime> + Send, K: Clock + Sync>(
     let Ok(mut dialers) = TcpDialer::<C>::many(rt.alloc(), *rt, DIALERS) else {
         return Ended::NoMemory;
     };
-    let mut site = Input::new(Opened::at(rt, SITE));
+    let mut site = Input::new(Opened::at(*rt, SITE));
     let mut console = Input::new(rt.stdin());
     let mut output = Output::new(rt.stdout());
     live(

@@ -9,7 +9,6 @@ mod sites;
 mod waits;
 
 use exporter_commands::{Ended, plain};
-use sites::{INVERTER, PLANT, site_file};
 use std::alloc::{AllocError, Global};
 use std::test::Fail;
 use world_traits::{BytesSink, BytesSource};
@@ -112,42 +111,19 @@ fn long_script(alloc: Global) -> Result<String, AllocError> {
 }
 
 #[test]
-fn an_input_that_fails_at_each_read(rt: HostRuntime) -> Result<(), Fail> {
+fn an_input_and_an_output_that_fail_midway(rt: HostRuntime) -> Result<(), Fail> {
     let alloc = rt.alloc();
     let script = long_script(alloc)?;
+    let (ended, output) = run(alloc, "replay", script.as_str(), 1, 9)?;
+    assert_eq!(rt; ended, Ended::ReadFault);
+    assert!(rt; output.taken().is_empty());
 
-    // The last read of each finds the end.
-    for (line, input, reads) in [
-        ("replay", script.as_str(), 3),
-        ("replay", SCRIPT, 2),
-        ("check", SCRIPT, 2),
-    ] {
-        for read in 0..reads {
-            let (ended, output) = run(alloc, line, input, read, 9)?;
-            assert_eq!(rt; ended, Ended::ReadFault, "{line}, read {read}");
-            assert!(rt; output.taken().is_empty());
-        }
-    }
+    // The third read finds the end.
     let (ended, output) = run(alloc, "replay", script.as_str(), 3, 9)?;
     assert_eq!(rt; ended, Ended::Done);
     assert_eq!(rt; output.taken(), LIVES.as_bytes());
-    Ok(())
-}
-
-#[test]
-fn a_fault_of_the_output_ends_each_command(rt: HostRuntime) -> Result<(), Fail> {
-    let alloc = rt.alloc();
-    let site = site_file(alloc, PLANT, &[INVERTER])?;
-    for (line, input) in [
-        ("replay", SCRIPT),
-        ("check", site.as_str()),
-        ("simulate 7 4 1000", ""),
-    ] {
-        let (ended, output) = run(alloc, line, input, 9, 0)?;
-        assert_eq!(rt; ended, Ended::WriteFault, "{line}");
-        assert!(rt; output.taken().is_empty());
-        let (ended, _) = run(alloc, line, input, 9, 1)?;
-        assert_eq!(rt; ended, Ended::Done, "{line}");
-    }
+    let (ended, output) = run(alloc, "replay", SCRIPT, 9, 0)?;
+    assert_eq!(rt; ended, Ended::WriteFault);
+    assert!(rt; output.taken().is_empty());
     Ok(())
 }

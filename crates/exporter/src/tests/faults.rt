@@ -1,6 +1,6 @@
-//! `live` over an inverter that answers, where a read of the site file or a write fails, each in turn.
+//! `live` over an inverter that answers, where a read of the site file or a write fails.
 use super::first_lines;
-use super::links::{devices, run_with};
+use super::links::{COMMISSIONED, devices, run_with};
 use super::sites::{INVERTER, PLANT, site_file};
 use exporter_commands::Ended;
 use std::alloc::Global;
@@ -27,36 +27,21 @@ fn run(
 }
 
 #[test]
-fn a_site_file_that_fails_at_each_read(rt: HostRuntime) -> Result<(), Fail> {
-    let alloc = rt.alloc();
-    for line in ["commission 0", "serve 0 3", "run 1"] {
-        // The second read finds the end.
-        for read in 0..2 {
-            let (ended, out) = run(&rt, alloc, line, read, 9)?;
-            assert_eq!(rt; ended, Ended::ReadFault, "{line}, read {read}");
-            assert!(rt; out.taken().is_empty());
-        }
-        let (ended, _) = run(&rt, alloc, line, 2, 9)?;
-        assert_eq!(rt; ended, Ended::Done, "{line}");
-    }
-    Ok(())
-}
-
-#[test]
-fn an_output_that_fails_at_each_write(rt: HostRuntime) -> Result<(), Fail> {
+fn a_site_file_and_an_output_that_fail_midway(rt: HostRuntime) -> Result<(), Fail> {
     let alloc = rt.alloc();
 
-    // Commissioning writes two lines, each by itself, and a run its whole text at once.
-    for (line, writes) in [("commission 0", 2), ("run 1", 1)] {
-        let (ended, whole) = run(&rt, alloc, line, 9, writes)?;
-        assert_eq!(rt; ended, Ended::Done, "{line}");
-        let whole = std::str::from_utf8(whole.taken()).ok().ok_or("text")?;
-        for write in 0..writes {
-            let (ended, out) = run(&rt, alloc, line, 9, write)?;
-            assert_eq!(rt; ended, Ended::WriteFault, "{line}, write {write}");
-            let before = first_lines(alloc, whole, write as usize)?;
-            assert_eq!(rt; out.taken(), before.as_bytes(), "{line}, write {write}");
-        }
-    }
+    // The second read finds the end. Commissioning writes two lines, each by itself.
+    let (ended, out) = run(&rt, alloc, "commission 0", 1, 9)?;
+    assert_eq!(rt; ended, Ended::ReadFault);
+    assert!(rt; out.taken().is_empty());
+    let (ended, out) = run(&rt, alloc, "commission 0", 9, 1)?;
+    assert_eq!(rt; ended, Ended::WriteFault);
+    assert_eq!(rt;
+        out.taken(),
+        first_lines(alloc, COMMISSIONED, 1)?.as_bytes()
+    );
+    let (ended, out) = run(&rt, alloc, "run 1", 9, 0)?;
+    assert_eq!(rt; ended, Ended::WriteFault);
+    assert!(rt; out.taken().is_empty());
     Ok(())
 }

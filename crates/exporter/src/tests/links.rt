@@ -2,7 +2,7 @@
 ghost use Rattle.std.specs.Prelude.{◌≡◌, IfOk};
 
 use super::sites::{INVERTER, PLANT, site_file};
-use super::{first_lines, words};
+use super::words;
 use exporter_commands::{Ended, LiveFault, live};
 use inverter_sim::Bank;
 use limiter_num::{Rating, Rules};
@@ -14,7 +14,7 @@ use std::test::Fail;
 use world_traits::{BytesSink, BytesSource, Dialer, Link, Move, PlayDialer, PlayLink, StepClock};
 
 /// What commissioning it writes.
-const COMMISSIONED: &str = "found base 40296 wmax 6000 wsf 0 psf -1
+pub const COMMISSIONED: &str = "found base 40296 wmax 6000 wsf 0 psf -1
 commissioned 0
 ";
 
@@ -172,58 +172,5 @@ fn a_served_inverter_answers_the_first_read(rt: HostRuntime) -> Result<(), Fail>
     let log = dialers.first().ok_or("the first dialer")?.log();
     assert_eq!(rt; log.count(), 1);
     assert!(rt; log.link(0).is_some_and(is_answered));
-    Ok(())
-}
-
-/// How many calls of the dialer commissioning makes: a dial, and a send and a receive for each of 11 requests. These are
-/// for the mark, six headers (of the models 1, 701 to 704, and the end), two models, the write and the read-back.
-const CALLS: u32 = 23;
-
-/// The call that receives the second of the two models, so that the line of what was found is written.
-const FOUND: u32 = 18;
-
-/// How commissioning ends where the dialer's call of this number fails, and how many lines are written.
-fn end_at(call: u32) -> (Ended, usize) {
-    let lines = usize::from(call > FOUND);
-    match call {
-        0 => (Ended::Refused(LiveFault::Dial), lines),
-        CALLS => (Ended::Done, 2),
-        _ if call % 2 == 1 => (Ended::Refused(LiveFault::Send), lines),
-        _ => (Ended::Refused(LiveFault::Recv), lines),
-    }
-}
-
-#[test]
-fn a_commissioning_whose_dialer_fails_at_each_call(rt: HostRuntime) -> Result<(), Fail> {
-    let alloc = rt.alloc();
-    let clock = StepClock::new(0, 1);
-    for call in 0..=CALLS {
-        let mut dialers = devices(&rt, alloc, 6_000, &clock, &[call])?;
-        let (ended, out) = run(&rt, alloc, "commission 0", &mut dialers)?;
-        let (wanted, lines) = end_at(call);
-        let text = first_lines(alloc, COMMISSIONED, lines)?;
-        assert_eq!(rt; ended, wanted, "call {call}");
-        assert_eq!(rt; out.taken(), text.as_bytes(), "call {call}");
-    }
-    Ok(())
-}
-
-#[test]
-fn a_served_inverter_whose_dialer_fails_at_each_call(rt: HostRuntime) -> Result<(), Fail> {
-    let alloc = rt.alloc();
-
-    // It waits for a connection, receives, answers, and receives; each failure but that of the send takes a turn.
-    for (call, is_answered) in [(0, true), (1, false), (2, false), (3, true)] {
-        let read = Move::Bytes(Vec::from_slice(alloc, &FIRST_READ)?);
-        let mut dialers = players(alloc, 100, read, &[call])?;
-        let (ended, out) = run(&rt, alloc, "serve 0 3", &mut dialers)?;
-        assert_eq!(rt; ended, Ended::Done, "call {call}");
-        assert!(rt; out.taken().is_empty());
-        let log = dialers.first().ok_or("the first dialer")?.log();
-        let sent = log.link(0).ok_or("a link")?.sent();
-        assert_eq!(rt; log.count(), 1, "call {call}");
-        assert_eq!(rt; sent == FIRST_REPLY.as_slice(), is_answered, "call {call}");
-        assert_eq!(rt; sent.is_empty(), !is_answered, "call {call}");
-    }
     Ok(())
 }

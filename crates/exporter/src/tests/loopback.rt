@@ -1,11 +1,12 @@
 //! `live` in two threads of one process, over TCP on this machine.
 use super::sites::{INVERTER, Inverter, PLANT, Plant, site_file};
 use super::words;
-use crate::adapters::{BootClock, Calling, Listening, Opener, TcpDialer};
 use exporter_commands::{Ended, LiveFault, live};
+use host_adapters::{BootClock, Calling, Listening, Opener, TcpDialer};
 use std::alloc::AllocError;
+use std::net::{TcpListener, TcpStream};
 use std::test::Fail;
-use std::thread;
+use std::{io, thread};
 use world_traits::{BytesSink, BytesSource, Clock};
 
 /// A plant whose worker hardly rests.
@@ -16,7 +17,7 @@ const QUICK: Plant = Plant {
 };
 
 /// How `live` ends with these words, where links to this port come about in this way.
-fn run<C: Opener<Runtime = HostRuntime> + Send, K: Clock + Sync>(
+fn run<C: Opener<Runtime = HostRuntime, Stream = TcpStream> + Send, K: Clock + Sync>(
     rt: &HostRuntime,
     clock: &K,
     port: u16,
@@ -25,7 +26,7 @@ fn run<C: Opener<Runtime = HostRuntime> + Send, K: Clock + Sync>(
     let alloc = rt.alloc();
     let words = words(alloc, line)?;
     let inverter = Inverter {
-        host: "127.0.0.1",
+        host: "127.0.0.2",
         port,
         ..INVERTER
     };
@@ -45,10 +46,19 @@ fn run<C: Opener<Runtime = HostRuntime> + Send, K: Clock + Sync>(
     ))
 }
 
+/// A port of this machine at which nobody listens.
+fn free_port(rt: &HostRuntime) -> io::Result<u16> {
+    Ok(TcpListener::bind(rt, "127.0.0.2:0")?.local_addr()?.port())
+}
+
 /// How `commission` ends, once the inverter listens.
-fn commission<K: Clock + Sync>(rt: &HostRuntime, clock: &K) -> Result<Ended, AllocError> {
+fn commission<K: Clock + Sync>(
+    rt: &HostRuntime,
+    clock: &K,
+    port: u16,
+) -> Result<Ended, AllocError> {
     for _ in 0..100 {
-        let ended = run::<Calling<HostRuntime>, K>(rt, clock, 15629, "commission 0")?;
+        let ended = run::<Calling<HostRuntime>, K>(rt, clock, port, "commission 0")?;
         if ended != Ended::Refused(LiveFault::Dial) {
             return Ok(ended);
         }
@@ -58,27 +68,24 @@ fn commission<K: Clock + Sync>(rt: &HostRuntime, clock: &K) -> Result<Ended, All
 }
 
 #[test]
-fn an_inverter_that_is_served_is_commissioned(rt: HostRuntime) -> Result<(), Fail> {
+fn an_inverter_that_is_served_is_commissioned_and_kept_under_the_cap(
+    rt: HostRuntime,
+) -> Result<(), Fail> {
     let clock = BootClock::new(rt);
-    let (served, commissioned) = thread::join(
+    let port = free_port(&rt)?;
+    let (served, kept) = thread::join(
         &rt,
-        || run::<Listening<HostRuntime>, BootClock<HostRuntime>>(&rt, &clock, 15629, "serve 0 40"),
-        || commission(&rt, &clock),
+        || run::<Listening<HostRuntime>, BootClock<HostRuntime>>(&rt, &clock, port, "serve 0 60"),
+        || {
+            let commissioned = commission(&rt, &clock, port)?;
+            let ran = run::<Calling<HostRuntime>, BootClock<HostRuntime>>(
+                &rt, &clock, port, "run 3",
+            )?;
+            Ok((commissioned, ran))
+        },
     );
     assert_eq!(rt; served?, Ended::Done);
-    assert_eq!(rt; commissioned?, Ended::Done);
-    Ok(())
-}
-
-#[test]
-fn an_inverter_that_is_served_is_kept_under_the_cap(rt: HostRuntime) -> Result<(), Fail> {
-    let clock = BootClock::new(rt);
-    let (served, ran) = thread::join(
-        &rt,
-        || run::<Listening<HostRuntime>, BootClock<HostRuntime>>(&rt, &clock, 15630, "serve 0 40"),
-        || run::<Calling<HostRuntime>, BootClock<HostRuntime>>(&rt, &clock, 15630, "run 3"),
-    );
-    assert_eq!(rt; served?, Ended::Done);
-    assert_eq!(rt; ran?, Ended::Done);
+    let kept: Result<(Ended, Ended), AllocError> = kept;
+    assert_eq!(rt; kept?, (Ended::Done, Ended::Done));
     Ok(())
 }

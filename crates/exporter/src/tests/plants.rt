@@ -57,6 +57,32 @@ fn is_cut(link: &Link) -> bool {
     link.sent().len() % READ_BYTES == 7 && link.sent().ends_with(&CUT_END)
 }
 
+/// The last request of the other inverter: behind a read-back in each of its 200 turns, and 17 writes, one each 20 s from the
+/// 68th second to the 401st.
+const OTHERS_LAST: [u8; READ_BYTES] = [0, 217, 0, 0, 0, 6, 1, 3, 0x9D, 0x76, 0, 8];
+
+/// What a read-back on a new link shows before the write's window has passed, and behind it.
+const RESERVED: &str = "link 70351 0 = linked 2
+read 70351 0 = readas 2 1
+saw 70351 0 1 100 = freed 0 3996000
+read 75000 0 = readas 2 2
+saw 75000 0 2 100 = freed 1 600000
+";
+
+/// The lives of a text up to its second link of an inverter, and these lines.
+fn before_second_link(alloc: Global, text: &str, behind: &str) -> Result<String, AllocError> {
+    let mut lives = String::new(alloc);
+    for line in text
+        .lines()
+        .take_while(|line| !line.ends_with("= linked 2"))
+    {
+        lives.push_str(line)?;
+        lives.push_str("\n")?;
+    }
+    lives.push_str(behind)?;
+    Ok(lives)
+}
+
 #[test]
 fn a_write_that_was_cut_short(rt: HostRuntime) -> Result<(), Fail> {
     let alloc = rt.alloc();
@@ -74,6 +100,19 @@ fn a_write_that_was_cut_short(rt: HostRuntime) -> Result<(), Fail> {
     let book = book.ok_or("the ends of the workers")?;
     let again = replayed(alloc, out.taken())?;
     assert!(rt; again.taken() == book);
+
+    // The write stays reserved up to the second link, and until a read-back behind its window frees it.
+    let text = std::str::from_utf8(book).ok().ok_or("text")?;
+    let probed = before_second_link(alloc, text, RESERVED)?;
+    let again = replayed(alloc, probed.as_bytes())?;
+    assert!(rt; again.taken() == probed.as_bytes());
+
+    // The other inverter has one link to the end.
+    let log = dialers.get(1).ok_or("the other dialer")?.inner().log();
+    let goes_on = log
+        .link(0)
+        .is_some_and(|link| link.sent().ends_with(&OTHERS_LAST));
+    assert!(rt; goes_on && log.count() == 1);
     Ok(())
 }
 

@@ -29,7 +29,9 @@ fn the_clock_counts_from_the_boot_of_the_machine(rt: HostRuntime) -> Result<(), 
 fn a_file_is_opened_when_it_is_read(rt: HostRuntime) -> Result<(), Fail> {
     let path = "adapters-test.toml";
     let mut into = [0; 6];
+    fs::write(&rt, path, "cap = 2\n")?;
     let mut file = Opened::at(rt, path);
+    fs::remove_file(&rt, path)?;
     assert!(rt; file.read(&mut into).is_err());
     fs::write(&rt, path, "cap = 1\n")?;
     assert_eq!(rt; file.read(&mut into)?, 6);
