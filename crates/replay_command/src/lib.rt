@@ -6,5 +6,5 @@
 mod command;
 mod laws;
 
-pub use laws::what_a_replay_says;
 pub use command::replay;
+pub use laws::what_a_replay_says;

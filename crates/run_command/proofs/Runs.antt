@@ -166,8 +166,7 @@ module _ {N : Type 0} (links : N → Option Links) (faults : N → ℕ) (may_giv
       let ended : end_of_run plant workers ≡ runs.BookFull calls = sym (run_of_end (end_of_run plant workers)) ∙ ap run_of (sym written.1) in
       let one = full_worker plant workers calls ended in
       let full : plant.site.room ≤ length plant.entries = run.full one.0 one.1 one.2 one.3 in
-      let room : calls ≡ file.site.room = omega (arith, full, written.0.1.within, one.4, ap (λ (s : SiteRecord). s.room) run.site) in
-      (
+      let room : calls ≡ file.site.room = omega (arith, full, written.0.1.within, one.4, ap (λ (s : SiteRecord). s.room) run.site) in (
         written.0.0,
         record { file = file; is_file = is; room = room; plant = plant; workers = workers; site = run.site; full = one.4; text_is = written.0.1.text_is },
         written.0.2,

@@ -6,5 +6,5 @@
 mod command;
 mod laws;
 
-pub use laws::what_a_simulation_says;
 pub use command::{INVERTERS_MAX, STEPS_MAX, Simulation, simulate};
+pub use laws::what_a_simulation_says;

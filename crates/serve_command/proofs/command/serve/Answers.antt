@@ -12,7 +12,7 @@ returns-in-Ok g c =
     let site = change g.S.Source.left g.S.Source.faults c.args.site.now c.read_site.new.source in
     let dials = dialing g.N.Dialer.links g.N.Dialer.faults c.args.dialer.now c.serve_inverter.new.dialer in
     let end : IsServeEnd (g.K.Clock.may_give c.args.clock.now) c.args.inverter c.args.turns read site dials c.serve_inverter.result =
-        served_end (g.K.Clock.may_give c.args.clock.now) c.in-Ok.file c.args.inverter c.args.turns read site dials c.serve_inverter.result c.in-Ok.ensures.file.1 c.serve_inverter.ensures in
+    served_end (g.K.Clock.may_give c.args.clock.now) c.in-Ok.file c.args.inverter c.args.turns read site dials c.serve_inverter.result c.in-Ok.ensures.file.1 c.serve_inverter.ensures in
     record { ends = (read, end); due = due (g.K.Clock.may_give c.args.clock.now) c.args.inverter c.args.turns read site dials c.serve_inverter.result end }
 
 pub returns-in-Err : goal.returns-in-Err
@@ -21,5 +21,5 @@ returns-in-Err g c =
     let site = change g.S.Source.left g.S.Source.faults c.args.site.now c.read_site.new.source in
     let dials = dialing g.N.Dialer.links g.N.Dialer.faults c.args.dialer.now c.args.dialer.now in
     let end : IsServeEnd (g.K.Clock.may_give c.args.clock.now) c.args.inverter c.args.turns read site dials c.in-Err.ended =
-        not_begun (no_site c.in-Err.ensures.ended.1) (refl, refl) in
+    not_begun (no_site c.in-Err.ensures.ended.1) (refl, refl) in
     record { ends = (read, end); due = due (g.K.Clock.may_give c.args.clock.now) c.args.inverter c.args.turns read site dials c.in-Err.ended end }
