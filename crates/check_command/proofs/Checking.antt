@@ -2,7 +2,7 @@
 use Rattle.std.proofs.Common.{◌≡◌, ℕ, ◌≤◌, ◌⊎◌, inl, inr, List, length, refl, ap, arith}
 use Rattle.std.specs.Prelude.{IfSome}
 use Rattle.site_config.specs.declared.fault.SiteFault.{SiteFault}
-use Rattle.site_config.specs.SiteFile.{SiteFileRecord, IsSiteFile}
+use Rattle.site_config.specs.SiteFile.{SiteFileRecord}
 use Rattle.stream_io.specs.Streams.{Change, Fails}
 use Rattle.stream_io.proofs.Told.{if_some_all, if_some_more}
 use Rattle.command_io.specs.declared.ended.Ended.{Ended}

@@ -1,5 +1,5 @@
 -- What an end says of the inverter that a command names: that of a command that found none, and that of one that did.
-use Rattle.std.proofs.Common.{◌≡◌, ◌≢◌, ℕ, ◌<◌, ◌≤◌, ◌⊎◌, inl, inr, List, length, refl, ap, ◌∙◌, arith}
+use Rattle.std.proofs.Common.{◌≡◌, ℕ, ◌<◌, ◌≤◌, inl, inr, List, length, ap, ◌∙◌, arith}
 use Rattle.std.specs.Prelude.{IfSome}
 use Rattle.plant_book.specs.Site.{inverters}
 use Rattle.site_config.specs.SiteFile.{SiteFileRecord, IsSiteFile}
@@ -12,9 +12,9 @@ use Rattle.command_io.specs.declared.ended.Ended.TheVariants as ends
 use Rattle.command_io.specs.declared.live_fault.LiveFault.{LiveFault}
 use Rattle.command_io.specs.declared.live_fault.LiveFault.TheVariants as faults
 use Rattle.command_io.specs.Ends.{status_of}
-use Rattle.command_io.specs.Site.{site_limit, FindsNoSite, HasSiteCause}
+use Rattle.command_io.specs.Site.{site_limit, HasSiteCause}
 use Rattle.command_io.proofs.Sites.{IsApart, no_site_causes, no_site_due, no_site_memory, of_whole, read_causes, read_due}
-use Rattle.command_link.specs.Finding.{FindsInverter, FindsNoInverter, HasInverter, IsJob, LacksInverter, RefusesNoInverter, no_site, no_inverter}
+use Rattle.command_link.specs.Finding.{FindsInverter, FindsNoInverter, HasInverter, LacksInverter, RefusesNoInverter, no_site, no_inverter}
 
 -- a command that found no inverter
 

@@ -1,5 +1,5 @@
 -- What the ends of `commission` say.
-use Rattle.std.proofs.Common.{◌≡◌, ◌≢◌, ℕ, ◌≤◌, inl, inr, map, List, [], ◌∷◌, ◌++◌, length, Option, Some, Ok, Err, refl, sym, ap, subst, ◌∙◌, arith}
+use Rattle.std.proofs.Common.{◌≡◌, ℕ, inl, inr, map, List, [], ◌∷◌, ◌++◌, length, Option, Some, Ok, Err, refl, sym, ap, subst, ◌∙◌, arith}
 use Rattle.std.specs.Prelude.{IfSome, IsOk}
 use Rattle.world_traits.specs.Links.{Answer, Bytes, Quiet, Closed, Failed, Link, Receipt}
 use Rattle.mbap_frames.specs.declared.frame.FrameFault.{FrameFault}
@@ -17,7 +17,6 @@ use Rattle.stream_io.specs.Streams.{Change, Fails, GainsNothing}
 use Rattle.stream_io.proofs.Told.{if_some_more}
 use Rattle.command_io.specs.declared.ended.Ended.{Ended}
 use Rattle.command_io.specs.declared.ended.Ended.TheVariants as ends
-use Rattle.command_io.specs.declared.live_fault.LiveFault.{LiveFault}
 use Rattle.command_io.specs.declared.live_fault.LiveFault.TheVariants as faults
 use Rattle.command_io.specs.Ends.{status_of}
 use Rattle.command_io.specs.Site.{HasSiteCause, ReadsSite}
@@ -25,7 +24,7 @@ use Rattle.command_io.proofs.Sites.{IsApart, of_whole}
 use Rattle.command_link.specs.Dialing.{Dialing, DialsNothing, FaultsAt, FailsToDial, FailsToReceive, HasBadFrame, HeardLast, MakesLink}
 use Rattle.command_link.specs.Finding.{FindsInverter, HasInverter, IsJob, LacksInverter, no_inverter}
 use Rattle.command_link.proofs.Found.{found_causes, found_due, found_has, none_causes, none_due, none_lacks, none_memory, none_not_written, none_refused}
-use Rattle.commission_command.specs.Commission.{Commissions, CommissionsOne, HearsReplies, IsCommissionDue, IsCommissionEnd, IsCutShort, IsRefusedBy, begun, commissions, end_of, fault_of, lacks, not_begun}
+use Rattle.commission_command.specs.Commission.{Commissions, CommissionsOne, IsCommissionDue, IsCommissionEnd, IsCutShort, IsRefusedBy, begun, commissions, end_of, fault_of, lacks, not_begun}
 
 -- what is done with the site file is an end of the command
 pub commissioned_end : (file : SiteFileRecord) (number : ℕ) (read : List ℕ) (site output : Change) (dialing : Dialing) (ended : Ended)

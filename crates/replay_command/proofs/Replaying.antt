@@ -1,5 +1,5 @@
 -- What the ends of `replay` say of the bytes that the input told.
-use Rattle.std.proofs.Common.{◌≡◌, ℕ, ◌<◌, ◌≤◌, ◌⊎◌, inl, inr, List, length, Option, Some, None, refl, sym, ap, subst, ◌∙◌, arith}
+use Rattle.std.proofs.Common.{◌≡◌, ℕ, ◌<◌, ◌≤◌, ◌⊎◌, inl, inr, List, length, Option, Some, None, refl, sym, ap, ◌∙◌, arith}
 use Rattle.std.specs.Prelude.{IfSome}
 use Rattle.std.specs.Io.KnownBytes.{IsAtEnd}
 use Rattle.plant_ledger.specs.declared.opening.OpenFault.{OpenFault}
@@ -13,8 +13,8 @@ use Rattle.script_replay.specs.Replay.{IsReplay, IsRefused, Explains, HasRoom}
 use Rattle.command_io.specs.declared.ended.Ended.{Ended}
 use Rattle.command_io.specs.declared.ended.Ended.TheVariants as ends
 use Rattle.command_io.specs.Ends.{status_of}
-use Rattle.stream_io.specs.Streams.{Change, Fails, ReadsWhole, GainsText, GainsFront, GainsNothing}
-use Rattle.replay_command.specs.Replay.{input_limit, site_end, fault_end, written_end, HasBadSite, IsReplayText, TellsSafeLives, IsReplayDue, IsReplayEnd}
+use Rattle.stream_io.specs.Streams.{Change, Fails, ReadsWhole, GainsText, GainsNothing}
+use Rattle.replay_command.specs.Replay.{input_limit, site_end, fault_end, written_end, HasBadSite, IsReplayText, TellsSafeLives, IsReplayEnd}
 use Rattle.stream_io.proofs.Told.{if_some_all, if_some_more, told_whole, told_front}
 
 -- the ends of one call

@@ -1,5 +1,5 @@
 -- A run that ends at a full book: its book has as many calls as room.
-use Rattle.std.proofs.Common.{◌≡◌, ℕ, zero, suc, ◌<◌, Bool, true, false, List, [], ◌∷◌, length, Option, Some, refl, ap, arith}
+use Rattle.std.proofs.Common.{◌≡◌, ℕ, zero, suc, ◌<◌, Bool, true, false, List, [], ◌∷◌, length, Some, refl, ap, arith}
 use Rattle.std.specs.Prelude.{if◌then◌else◌, slice_get}
 use Rattle.std.specs.List.{list_any, slice_index_or}
 use Rattle.std.proofs.lemmas.List.Folds.{Any-from_list_any}
@@ -8,7 +8,6 @@ use Rattle.inverter_worker.specs.declared.state.End.TheVariants as over
 use Rattle.inverter_worker.specs.declared.state.Step.{Step}
 use Rattle.inverter_worker.specs.declared.state.Step.TheVariants as steps
 use Rattle.worker_turn.specs.Worker.{WorkerRecord}
-use Rattle.site_run.specs.declared.report.RunEnd.{RunEnd}
 use Rattle.site_run.specs.declared.report.RunEnd.TheVariants as runs
 use Rattle.site_run.specs.Report.{end_of_run, found_full, lacks_memory}
 

@@ -1,5 +1,5 @@
 -- What the end of a run says, by what the end is.
-use Rattle.std.proofs.Common.{◌≡◌, ◌≢◌, ℕ, ◌<◌, ◌≤◌, ◌⊎◌, inl, inr, Bool, true, false, List, length, Option, None, Result, Ok, Err, refl, sym, ap, subst, ◌∙◌, arith}
+use Rattle.std.proofs.Common.{◌≡◌, ℕ, ◌<◌, ◌≤◌, ◌⊎◌, inl, inr, Bool, true, false, List, length, Option, Result, Ok, Err, refl, sym, ap, subst, ◌∙◌, arith}
 use Rattle.std.specs.Prelude.{IfSome, OnOk, OnErr, is_ok}
 use Rattle.world_traits.specs.Causes.{HasCause}
 use Rattle.std.specs.Io.KnownBytes.{Appends}
@@ -18,7 +18,7 @@ use Rattle.command_io.specs.declared.ended.Ended.{Ended}
 use Rattle.command_io.specs.declared.ended.Ended.TheVariants as ends
 use Rattle.command_io.specs.declared.live_fault.LiveFault.{LiveFault}
 use Rattle.command_io.specs.Ends.{status_of}
-use Rattle.command_io.specs.Site.{site_limit, FindsNoSite, HasSiteCause, ReadsSite}
+use Rattle.command_io.specs.Site.{FindsNoSite, HasSiteCause}
 use Rattle.command_io.proofs.Sites.{IsApart, no_site_causes, no_site_due, no_site_memory, of_whole, read_causes, read_due}
 use Rattle.run_command.specs.Run.{IsRunDue, IsRunEnd, IsRunText, IsTold, TellsFullBook, TellsSafeLife, end_of, no_site, not_begun, ran, whole, cut_short, untold}
 use Rattle.run_command.proofs.Full.{full_worker}

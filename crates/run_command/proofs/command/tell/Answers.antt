@@ -1,4 +1,4 @@
-use Rattle.std.proofs.Common.{◌≡◌, Bool, refl, sym, ap, ◌∙◌}
+use Rattle.std.proofs.Common.{Bool, refl, ap, ◌∙◌}
 use Rattle.site_run.specs.declared.report.RunEnd.{RunEnd}
 use Rattle.site_run.specs.Report.{end_of_run}
 use Rattle.stream_io.specs.Streams.{change}
