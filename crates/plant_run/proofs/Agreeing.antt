@@ -1,5 +1,5 @@
 -- What a worker did from its first turn on agrees with the book and with its dialer.
-use Rattle.std.proofs.Common.{◌≡◌, ℕ, List, [], ◌∷◌, ◌++◌, length, Option, refl, sym, ap, subst, ◌∙◌}
+use Rattle.std.proofs.Common.{◌≡◌, ℕ, Bool, List, [], ◌∷◌, ◌++◌, length, Option, refl, sym, ap, subst, ◌∙◌}
 use Rattle.world_traits.specs.Links.{Links}
 use Rattle.plant_book.specs.declared.book.Entry.{Entry}
 use Rattle.plant_book.specs.Book.{BookRecord}
@@ -21,17 +21,17 @@ use Rattle.plant_run.specs.Running.{IsNew}
 use Rattle.plant_run.specs.Agreement.{LinksAgree, Agrees}
 use Rattle.plant_run.proofs.Linking as linking
 
-pub agree : (opened book : BookRecord) (before after : WorkerRecord) (links links_now : Option Links) (faults faults_now : ℕ)
-    (works : Works before.job opened book before after links links_now faults faults_now) → IsNew before → LinksAgree before.job works.run links links_now
-agree opened book before after links links_now faults faults_now works new =
+pub agree : (may_give : ℕ → Bool) (opened book : BookRecord) (before after : WorkerRecord) (links links_now : Option Links) (faults faults_now : ℕ)
+    (works : Works may_give before.job opened book before after links links_now faults faults_now) → IsNew before → LinksAgree before.job works.run links links_now
+agree may_give opened book before after links links_now faults faults_now works new =
     let P : State → Type 0 = λ state. LeadsTo before.job state works.run after.state in
     linking.links_agree before.job before.state.turns works.run after.state _ _
     (subst P (ap (λ (worker : WorkerRecord). worker.state) new) works.leads) (works.done [])
 
-pub agrees : (opened book : BookRecord) (before after : WorkerRecord) (links links_now : Option Links) (faults faults_now : ℕ)
-    (works : Works before.job opened book before after links links_now faults faults_now) → IsNew before → opened.entries ≡ []
+pub agrees : (may_give : ℕ → Bool) (opened book : BookRecord) (before after : WorkerRecord) (links links_now : Option Links) (faults faults_now : ℕ)
+    (works : Works may_give before.job opened book before after links links_now faults faults_now) → IsNew before → opened.entries ≡ []
     → Agrees before.job book works.run (own_world before.job.inverter opened links faults [] before.unread) (own_world before.job.inverter book links_now faults_now (readings works.run) after.unread)
-agrees opened book before after links links_now faults faults_now works new none =
+agrees may_give opened book before after links links_now faults faults_now works new none =
     let old : World = own_world before.job.inverter opened links faults [] before.unread in
     let now : World = own_world before.job.inverter book links_now faults_now (readings works.run) after.unread in
     let done : AreDone before.job output.Nothing works.run old now = works.done [] in
@@ -41,7 +41,7 @@ agrees opened book before after links links_now faults faults_now works new none
     let all : gained.0 ≡ entries_of before.job.inverter book.entries = ap (λ (first : List Entry). first ++ gained.0) (sym empty) ∙ sym gained.1 in
     record {
       calls = subst (λ (entries : List Entry). AreEntriesOf (calls_made output.Nothing works.run) entries) all gained.2;
-      links = agree opened book before after links links_now faults faults_now works new;
+      links = agree may_give opened book before after links links_now faults faults_now works new;
       in_window = sent_in_time before.job before.state after.state works.run works.leads;
       requests = λ sofar later is receives.
           anywhere before.job before.state after.state sofar later old now ready

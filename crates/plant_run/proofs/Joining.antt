@@ -1,7 +1,10 @@
 -- What a worker did, and what it did then, as one.
-use Rattle.std.proofs.Common.{◌≡◌, ℕ, ◌+◌, List, [], ◌∷◌, ◌++◌, length, suc, take, ◌⊎◌, inl, inr, Option, refl, sym, ap, subst, ◌∙◌, arith, append_assoc, length-append}
+use Rattle.std.proofs.Common.{◌≡◌, ℕ, ◌+◌, Bool, List, [], ◌∷◌, ◌++◌, length, suc, take, ◌⊎◌, inl, inr, Option, refl, sym, ap, subst, ◌∙◌, arith, append_assoc, length-append}
 use Rattle.std.proofs.lemmas.List.{take-append-le}
+use Rattle.std.specs.Prelude.{IsTrue}
+use Rattle.std.proofs.lemmas.List.Elements.{All-append}
 use Rattle.std.proofs.lemmas.List.Concat.{flat_map-append}
+use Rattle.world_traits.specs.Clocks.{AreGiven}
 use Rattle.world_traits.specs.Links.{Links}
 use Rattle.plant_book.specs.declared.book.Entry.{Entry}
 use Rattle.plant_book.specs.Book.{BookRecord}
@@ -120,8 +123,8 @@ entries_length (one ∷ made) (entry ∷ gained) are = ap suc (entries_length ma
 entries_length [] (entry ∷ gained) are = absurd are
 entries_length (one ∷ made) [] are = absurd are
 
-module _ (job : Job) (first mid last : BookRecord) (a b c : WorkerRecord) (links links_mid links_now : Option Links) (faults faults_mid faults_now : ℕ)
-    (x : Works job first mid a b links links_mid faults faults_mid) (y : Works job mid last b c links_mid links_now faults_mid faults_now)
+module _ (may_give : ℕ → Bool) (job : Job) (first mid last : BookRecord) (a b c : WorkerRecord) (links links_mid links_now : Option Links) (faults faults_mid faults_now : ℕ)
+    (x : Works may_give job first mid a b links links_mid faults faults_mid) (y : Works may_give job mid last b c links_mid links_now faults_mid faults_now)
     (more : List Entry) (is : last ≡ record mid { entries = mid.entries ++ more }) where
   either_way : (pending output.Nothing x.run ≡ output.Nothing) ⊎ ((end : End) × (b.state.step ≡ Over end))
   either_way = rested b.state.step (pending output.Nothing x.run) x.rests
@@ -165,7 +168,7 @@ module _ (job : Job) (first mid last : BookRecord) (a b c : WorkerRecord) (links
       (pending output.Nothing x.run) y.run way (λ d. d) (y.done (earlier ++ readings x.run))) in
       done_between job output.Nothing (x.run ++ y.run) _ _ _ _ refl (ap world read) all
 
-  pub joined : Works job first last a c links links_now faults faults_now
+  pub joined : Works may_give job first last a c links links_now faults faults_now
   joined = record {
     run = x.run ++ y.run;
     job_same = y.job_same;
@@ -173,6 +176,10 @@ module _ (job : Job) (first mid last : BookRecord) (a b c : WorkerRecord) (links
     log = y.log ∙ ap (λ (t : List Sent). t ++ log y.run) x.log ∙ append_assoc a.log (log x.run) (log y.run)
         ∙ ap (λ (t : List Sent). a.log ++ t) (sym (flat_map-append (λ (one : RunStep). sends_of one.output) x.run y.run));
     done = done;
+    clock =
+        let P : List ℕ → Type 0 = λ r. AreGiven may_give r in
+        subst P (sym (flat_map-append (λ (one : RunStep). reading_in one.input) x.run y.run))
+        (All-append (λ reading. IsTrue (may_give reading)) (readings x.run) (readings y.run) x.clock y.clock);
     told = told;
     rests =
         let P : Output → Type 0 = λ put. IsAtRest c.state.step put in

@@ -94,18 +94,18 @@ grows_more P a b c x y =
       each = all_joined P x.more y.more x.each y.each;
     }
 
-module _ {N : Type 0} (links : N → Option Links) (faults : N → ℕ) where
+module _ {N : Type 0} (links : N → Option Links) (faults : N → ℕ) (may_give : ℕ → Bool) where
   -- nobody did anything
   pub none : (book : BookRecord) (workers : List WorkerRecord) (dialers : List N) (count : ℕ) → EachWorker (IsSeat count) workers
-      → WorkOn links faults book book workers workers dialers dialers
+      → WorkOn links faults may_give book book workers workers dialers dialers
   none book workers dialers count seats = record {
     grows = record { more = []; is = ap (λ (es : List Entry). record book { entries = es }) (sym (append-nil book.entries)); each = tt };
     each = λ place before after old new was now dialer dialer_now.
         let worker_same : before ≡ after = some_same before after (sym was ∙ now) in
         let dialer_same : old ≡ new = some_same old new (sym dialer ∙ dialer_now) in
-        let P : WorkerRecord → Type 0 = λ w. Works before.job book book before w (links old) (links new) (faults old) (faults new) in
-        let Q : N → Type 0 = λ d. Works before.job book book before before (links old) (links d) (faults old) (faults d) in
-        subst P worker_same (subst Q dialer_same (idle before.job book book before (links old) (faults old) refl (seats place before was).rests refl refl));
+        let P : WorkerRecord → Type 0 = λ w. Works may_give before.job book book before w (links old) (links new) (faults old) (faults new) in
+        let Q : N → Type 0 = λ d. Works may_give before.job book book before before (links old) (links d) (faults old) (faults d) in
+        subst P worker_same (subst Q dialer_same (idle may_give before.job book book before (links old) (faults old) refl (seats place before was).rests refl refl));
     workers_stay = refl;
     dialers_stay = refl;
     behind = λ place past. refl;
@@ -116,8 +116,8 @@ module _ {N : Type 0} (links : N → Option Links) (faults : N → ℕ) where
       → EachWorker (IsSeat count) workers → Differ workers → place < length workers → place < length dialers
       → slice_get workers place ≡ Some before → slice_get dialers place ≡ Some dialer
       → Grows (λ entry. is_workers before.job.inverter entry.call ≡ true) old new
-      → Works before.job old new before after (links dialer) (links dialer_now) (faults dialer) (faults dialer_now)
-      → WorkOn links faults old new workers (set workers place after) dialers (set dialers place dialer_now)
+      → Works may_give before.job old new before after (links dialer) (links dialer_now) (faults dialer) (faults dialer_now)
+      → WorkOn links faults may_give old new workers (set workers place after) dialers (set dialers place dialer_now)
   one old new workers dialers count place before after dialer dialer_now seats differ within dialed was was_dialer grows works = record {
     grows = record {
       more = grows.more;
@@ -133,21 +133,21 @@ module _ {N : Type 0} (links : N → Option Links) (faults : N → ℕ) where
     where
       here : (a b : WorkerRecord) (d e : N) → slice_get workers place ≡ Some a → slice_get (set workers place after) place ≡ Some b
           → slice_get dialers place ≡ Some d → slice_get (set dialers place dialer_now) place ≡ Some e
-          → Works a.job old new a b (links d) (links e) (faults d) (faults e)
+          → Works may_give a.job old new a b (links d) (links e) (faults d) (faults e)
       here a b d e is_a is_b is_d is_e =
           let same_a : before ≡ a = some_same before a (sym was ∙ is_a) in
           let same_b : after ≡ b = some_same after b (sym (get_same workers place after within) ∙ is_b) in
           let same_d : dialer ≡ d = some_same dialer d (sym was_dialer ∙ is_d) in
           let same_e : dialer_now ≡ e = some_same dialer_now e (sym (get_same dialers place dialer_now dialed) ∙ is_e) in
-          let P : WorkerRecord → Type 0 = λ a. Works a.job old new a b (links d) (links e) (faults d) (faults e) in
-          let Q : WorkerRecord → Type 0 = λ b. Works before.job old new before b (links d) (links e) (faults d) (faults e) in
-          let R : N → Type 0 = λ d. Works before.job old new before after (links d) (links e) (faults d) (faults e) in
-          let S : N → Type 0 = λ e. Works before.job old new before after (links dialer) (links e) (faults dialer) (faults e) in
+          let P : WorkerRecord → Type 0 = λ a. Works may_give a.job old new a b (links d) (links e) (faults d) (faults e) in
+          let Q : WorkerRecord → Type 0 = λ b. Works may_give before.job old new before b (links d) (links e) (faults d) (faults e) in
+          let R : N → Type 0 = λ d. Works may_give before.job old new before after (links d) (links e) (faults d) (faults e) in
+          let S : N → Type 0 = λ e. Works may_give before.job old new before after (links dialer) (links e) (faults dialer) (faults e) in
           subst P same_a (subst Q same_b (subst R same_d (subst S same_e works)))
 
       there : (other : ℕ) (a b : WorkerRecord) (d e : N) → place ≢ other → slice_get workers other ≡ Some a
           → slice_get (set workers place after) other ≡ Some b → slice_get dialers other ≡ Some d → slice_get (set dialers place dialer_now) other ≡ Some e
-          → Works a.job old new a b (links d) (links e) (faults d) (faults e)
+          → Works may_give a.job old new a b (links d) (links e) (faults d) (faults e)
       there other a b d e not is_a is_b is_d is_e =
           let same_b : a ≡ b = some_same a b (sym is_a ∙ sym (get_other workers place other after not) ∙ is_b) in
           let same_e : d ≡ e = some_same d e (sym is_d ∙ sym (get_other dialers place other dialer_now not) ∙ is_e) in
@@ -156,23 +156,23 @@ module _ {N : Type 0} (links : N → Option Links) (faults : N → ℕ) where
           ap (λ (book : BookRecord). entries_of a.job.inverter book.entries) grows.is
           ∙ others_stay before.job.inverter a.job.inverter apart old.entries grows.more grows.each in
           let site : new.site ≡ old.site = ap (λ (book : BookRecord). book.site) grows.is in
-          let P : WorkerRecord → Type 0 = λ b. Works a.job old new a b (links d) (links e) (faults d) (faults e) in
-          let Q : N → Type 0 = λ e. Works a.job old new a a (links d) (links e) (faults d) (faults e) in
-          subst P same_b (subst Q same_e (idle a.job old new a (links d) (faults d) refl (seats other a is_a).rests entries site))
+          let P : WorkerRecord → Type 0 = λ b. Works may_give a.job old new a b (links d) (links e) (faults d) (faults e) in
+          let Q : N → Type 0 = λ e. Works may_give a.job old new a a (links d) (links e) (faults d) (faults e) in
+          subst P same_b (subst Q same_e (idle may_give a.job old new a (links d) (faults d) refl (seats other a is_a).rests entries site))
 
       at : (other : ℕ) (a b : WorkerRecord) (d e : N) → (place ≡ other) ⊎ (place ≢ other) → slice_get workers other ≡ Some a
           → slice_get (set workers place after) other ≡ Some b → slice_get dialers other ≡ Some d → slice_get (set dialers place dialer_now) other ≡ Some e
-          → Works a.job old new a b (links d) (links e) (faults d) (faults e)
+          → Works may_give a.job old new a b (links d) (links e) (faults d) (faults e)
       at other a b d e (inl same) is_a is_b is_d is_e =
           let P : ℕ → Type 0 = λ n. slice_get workers n ≡ Some a → slice_get (set workers place after) n ≡ Some b → slice_get dialers n ≡ Some d
-          → slice_get (set dialers place dialer_now) n ≡ Some e → Works a.job old new a b (links d) (links e) (faults d) (faults e) in
+          → slice_get (set dialers place dialer_now) n ≡ Some e → Works may_give a.job old new a b (links d) (links e) (faults d) (faults e) in
           subst P same (here a b d e) is_a is_b is_d is_e
       at other a b d e (inr not) is_a is_b is_d is_e = there other a b d e not is_a is_b is_d is_e
 
   -- what all did, and what all did then
   pub more : (a b c : BookRecord) (workers workers_mid workers_now : List WorkerRecord) (dialers dialers_mid dialers_now : List N)
-      → length workers ≤ length dialers → WorkOn links faults a b workers workers_mid dialers dialers_mid
-      → WorkOn links faults b c workers_mid workers_now dialers_mid dialers_now → WorkOn links faults a c workers workers_now dialers dialers_now
+      → length workers ≤ length dialers → WorkOn links faults may_give a b workers workers_mid dialers dialers_mid
+      → WorkOn links faults may_give b c workers_mid workers_now dialers_mid dialers_now → WorkOn links faults may_give a c workers workers_now dialers dialers_now
   more a b c workers workers_mid workers_now dialers dialers_mid dialers_now enough x y = record {
     grows = grows_more (IsOfOne workers) a b c x.grows
         (record { more = y.grows.more; is = y.grows.is; each = all_map (IsOfOne workers_mid) (IsOfOne workers) of_one y.grows.more y.grows.each });
@@ -183,8 +183,8 @@ module _ {N : Type 0} (links : N → Option Links) (faults : N → ℕ) where
         let mid_dialer = get_at dialers_mid place (omega (arith, dialed, x.dialers_stay)) in
         let first = x.each place before mid.0 old mid_dialer.0 was mid.1 dialer mid_dialer.1 in
         let last = y.each place mid.0 after mid_dialer.0 new mid.1 now mid_dialer.1 dialer_now in
-        let P : Job → Type 0 = λ job. Works job b c mid.0 after (links mid_dialer.0) (links new) (faults mid_dialer.0) (faults new) in
-        joined before.job a b c before mid.0 after _ _ _ _ _ _ first (subst P first.job_same last) y.grows.more y.grows.is;
+        let P : Job → Type 0 = λ job. Works may_give job b c mid.0 after (links mid_dialer.0) (links new) (faults mid_dialer.0) (faults new) in
+        joined may_give before.job a b c before mid.0 after _ _ _ _ _ _ first (subst P first.job_same last) y.grows.more y.grows.is;
     workers_stay = y.workers_stay ∙ x.workers_stay;
     dialers_stay = y.dialers_stay ∙ x.dialers_stay;
     behind = λ place past. y.behind place (omega (arith, past, x.workers_stay)) ∙ x.behind place past;

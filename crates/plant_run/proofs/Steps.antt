@@ -1,5 +1,5 @@
 -- Steps between worlds that are the same, and none.
-use Rattle.std.proofs.Common.{◌≡◌, ℕ, List, [], Option, refl, sym, subst, append-nil}
+use Rattle.std.proofs.Common.{◌≡◌, ℕ, Bool, List, [], Option, refl, sym, subst, arith, append-nil}
 use Rattle.world_traits.specs.Links.{Links}
 use Rattle.plant_book.specs.Book.{BookRecord}
 use Rattle.inverter_worker.specs.declared.job.Job.{Job}
@@ -25,15 +25,16 @@ rest_nothing (Over end) rests = tt
 rest_nothing step rests = absurd rests
 
 -- a worker that made no turn, while others did
-pub idle : (job : Job) (opened book : BookRecord) (worker : WorkerRecord) (links : Option Links) (faults : ℕ) → worker.job ≡ job
+pub idle : (may_give : ℕ → Bool) (job : Job) (opened book : BookRecord) (worker : WorkerRecord) (links : Option Links) (faults : ℕ) → worker.job ≡ job
     → IsBetweenTurns worker.state.step → entries_of job.inverter book.entries ≡ entries_of job.inverter opened.entries → book.site ≡ opened.site
-    → Works job opened book worker worker links links faults faults
-idle job opened book worker links faults same rests entries site = record {
+    → Works may_give job opened book worker worker links links faults faults
+idle may_give job opened book worker links faults same rests entries site = record {
   run = [];
   job_same = same;
   leads = refl;
   log = sym (append-nil worker.log);
   done = λ earlier. rw (entries, site, append-nil earlier) refl;
+  clock = λ place other within. absurd (omega (arith, within));
   told = tt;
   rests = rest_nothing worker.state.step rests;
 }

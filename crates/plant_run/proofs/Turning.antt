@@ -4,6 +4,7 @@ use Rattle.std.specs.Prelude.{slice_get}
 use Rattle.std.specs.List.{AllByRecursion}
 use Rattle.std.proofs.lemmas.List.{take-append-le, take_all}
 use Rattle.std.proofs.lemmas.Option.{none-some, get_or_from_slice_get}
+use Rattle.world_traits.specs.Clocks.{AreGiven}
 use Rattle.world_traits.specs.Links.{Links}
 use Rattle.plant_book.specs.declared.book.Entry.{Entry}
 use Rattle.plant_book.specs.Book.{BookRecord}
@@ -162,7 +163,8 @@ module _ (old new : PlainRecord) (whole : IsWhole old) (whole_now : IsWhole new)
         (full_all inverter later told.1),
   )
 
-  module _ (before after : WorkerRecord) (links links_now : Option Links) (faults faults_now : ℕ) (read : List ℕ) (ready : before.state.step ≡ Ready)
+  module _ (before after : WorkerRecord) (links links_now : Option Links) (faults faults_now : ℕ) (read : List ℕ) (may_give : ℕ → Bool)
+      (given : AreGiven may_give read) (ready : before.state.step ≡ Ready)
       (rests : IsBetweenTurns after.state.step) (same : after.job ≡ before.job)
       (turn : IsTurn (MayTell new) (WasFull new) before after (world_of (state_of old) links faults [] before.unread)
       (world_of (state_of new) links_now faults_now read after.unread)) where
@@ -212,7 +214,7 @@ module _ (old new : PlainRecord) (whole : IsWhole old) (whole_now : IsWhole new)
           subst P none (told_later job.inverter gains.0 turn.first.output turn.later entries turn.told walked.behind),
         )
 
-    pub turn_works : Works job (book_of old) (book_of new) before after links links_now faults faults_now
+    pub turn_works : Works may_give job (book_of old) (book_of new) before after links links_now faults faults_now
     turn_works = record {
       run = turn.first ∷ turn.later;
       job_same = same;
@@ -220,12 +222,13 @@ module _ (old new : PlainRecord) (whole : IsWhole old) (whole_now : IsWhole new)
       log = turn.log;
       done = λ earlier. done_between job output.Nothing (turn.first ∷ turn.later) _ _ _ _ (begun_as earlier) (now_as earlier)
           (seen job.inverter earlier was, begin_done job turn.first.input (seen job.inverter earlier was) turn.begins, walked.seen earlier);
+      clock = let P : List ℕ → Type 0 = λ r. AreGiven may_give r in subst P turn.readings given;
       told = told;
       rests = at_rest job after.state.step (pending turn.first.output turn.later) rests walked.stands;
     }
 
   -- a worker that is over did nothing
-  module _ (before after : WorkerRecord) (links links_now : Option Links) (faults faults_now : ℕ) (read read_now : List ℕ)
+  module _ (before after : WorkerRecord) (links links_now : Option Links) (faults faults_now : ℕ) (read read_now : List ℕ) (may_give : ℕ → Bool)
       (rests : IsBetweenTurns before.state.step) (same : after ≡ before)
       (world : world_of (state_of new) links_now faults_now read_now after.unread ≡ world_of (state_of old) links faults read before.unread) where
     made_same : (state_of new).made ≡ (state_of old).made
@@ -234,19 +237,19 @@ module _ (old new : PlainRecord) (whole : IsWhole old) (whole_now : IsWhole new)
     pub still_grows : (Fact : Entry → Type 0) → Grows Fact (book_of old) (book_of new)
     still_grows Fact = goes_on Fact [] (made_same ∙ sym (append-nil (state_of old).made)) tt
 
-    pub still_works : Works before.job (book_of old) (book_of new) before after links links_now faults faults_now
+    pub still_works : Works may_give before.job (book_of old) (book_of new) before after links links_now faults faults_now
     still_works =
         let entries : joined new ≡ joined old = sym (made_whole new whole_now) ∙ made_same ∙ made_whole old whole in
         let site : new.book.site ≡ old.book.site = ap (λ (l : LifeRecord). l.site) life in
-        let P : WorkerRecord → Type 0 = λ w. Works before.job (book_of old) (book_of new) before w links links_now faults faults_now in
-        let Q : Option Links → Type 0 = λ l. Works before.job (book_of old) (book_of new) before before links l faults faults_now in
-        let R : ℕ → Type 0 = λ f. Works before.job (book_of old) (book_of new) before before links links faults f in
+        let P : WorkerRecord → Type 0 = λ w. Works may_give before.job (book_of old) (book_of new) before w links links_now faults faults_now in
+        let Q : Option Links → Type 0 = λ l. Works may_give before.job (book_of old) (book_of new) before before links l faults faults_now in
+        let R : ℕ → Type 0 = λ f. Works may_give before.job (book_of old) (book_of new) before before links links faults f in
         subst P (sym same) (subst Q (sym (ap (λ (w : World). w.links) world)) (subst R (sym (ap (λ (w : World). w.faults) world))
-        (idle before.job (book_of old) (book_of new) before links faults refl rests (ap (entries_of before.job.inverter) entries) site)))
+        (idle may_give before.job (book_of old) (book_of new) before links faults refl rests (ap (entries_of before.job.inverter) entries) site)))
 
   -- what came of a turn, or of none
-  module _ (before after : WorkerRecord) (links links_now : Option Links) (faults faults_now : ℕ) (read read_now : List ℕ)
-      (rests : IsBetweenTurns before.state.step) (rests_now : IsBetweenTurns after.state.step) (same : after.job ≡ before.job) (none : read ≡ [])
+  module _ (before after : WorkerRecord) (links links_now : Option Links) (faults faults_now : ℕ) (read read_now : List ℕ) (may_give : ℕ → Bool)
+      (given : AreGiven may_give read_now) (rests : IsBetweenTurns before.state.step) (rests_now : IsBetweenTurns after.state.step) (same : after.job ≡ before.job) (none : read ≡ [])
       (turn : before.state.step ≡ Ready → IsTurn (MayTell new) (WasFull new) before after (world_of (state_of old) links faults read before.unread)
       (world_of (state_of new) links_now faults_now read_now after.unread))
       (over : (end : End) → before.state.step ≡ Over end → (after ≡ before)
@@ -263,18 +266,18 @@ module _ (old new : PlainRecord) (whole : IsWhole old) (whole_now : IsWhole new)
       where
         by : (before.state.step ≡ Ready) ⊎ ((end : End) × (before.state.step ≡ Over end))
             → Grows (λ entry. is_workers before.job.inverter entry.call ≡ true) (book_of old) (book_of new)
-        by (inl ready) = turn_grows before after links links_now faults faults_now read_now ready rests_now same (made ready)
+        by (inl ready) = turn_grows before after links links_now faults faults_now read_now may_give given ready rests_now same (made ready)
         by (inr ended) =
-            still_grows before after links links_now faults faults_now read read_now rests (over ended.0 ended.1).0 (over ended.0 ended.1).1
+            still_grows before after links links_now faults faults_now read read_now may_give rests (over ended.0 ended.1).0 (over ended.0 ended.1).1
             (λ entry. is_workers before.job.inverter entry.call ≡ true)
 
-    pub did : Works before.job (book_of old) (book_of new) before after links links_now faults faults_now
+    pub did : Works may_give before.job (book_of old) (book_of new) before after links links_now faults faults_now
     did = by (ready_or_over before.state.step rests)
       where
         by : (before.state.step ≡ Ready) ⊎ ((end : End) × (before.state.step ≡ Over end))
-            → Works before.job (book_of old) (book_of new) before after links links_now faults faults_now
-        by (inl ready) = turn_works before after links links_now faults faults_now read_now ready rests_now same (made ready)
-        by (inr ended) = still_works before after links links_now faults faults_now read read_now rests (over ended.0 ended.1).0 (over ended.0 ended.1).1
+            → Works may_give before.job (book_of old) (book_of new) before after links links_now faults faults_now
+        by (inl ready) = turn_works before after links links_now faults faults_now read_now may_give given ready rests_now same (made ready)
+        by (inr ended) = still_works before after links links_now faults faults_now read read_now may_give rests (over ended.0 ended.1).0 (over ended.0 ended.1).1
 
 -- how a turn leaves a worker
 pub answers_rest : (answer : Turned) (step : Step) → Answers answer step → IsBetweenTurns step

@@ -1,5 +1,5 @@
 -- A life in one book, from its begin to its end.
-use Rattle.std.proofs.Common.{◌≡◌, ℕ, List, [], ◌∷◌, ◌++◌, length, take, drop, Option, Some, refl, sym, ap, subst, ◌∙◌, arith}
+use Rattle.std.proofs.Common.{◌≡◌, ℕ, Bool, List, [], ◌∷◌, ◌++◌, length, take, drop, Option, Some, refl, sym, ap, subst, ◌∙◌, arith}
 use Rattle.std.specs.Prelude.{slice_get}
 use Rattle.std.specs.List.{AllByRecursion}
 use Rattle.std.proofs.lemmas.List.{take_all, take-append-le}
@@ -58,14 +58,14 @@ owned plant result workers more none is each =
     let entries : result.entries ≡ more = ap (λ (b : BookRecord). b.entries) is ∙ ap (λ (es : List Entry). es ++ more) none in
     let P : List Entry → Type 0 = λ es. AllByRecursion (IsOfOne workers) es in subst P (sym entries) each
 
-module _ {N : Type 0} (links : N → Option Links) (faults : N → ℕ) where
+module _ {N : Type 0} (links : N → Option Links) (faults : N → ℕ) (may_give : ℕ → Bool) where
   -- the same of the books and of the lists as they were lent
   pub work_is : (a b c d : BookRecord) (workers lent_workers now : List WorkerRecord) (dialers lent_dialers dialers_now : List N) → a ≡ c → b ≡ d
-      → lent_workers ≡ workers → lent_dialers ≡ dialers → WorkOn links faults a b lent_workers now lent_dialers dialers_now
-      → WorkOn links faults c d workers now dialers dialers_now
+      → lent_workers ≡ workers → lent_dialers ≡ dialers → WorkOn links faults may_give a b lent_workers now lent_dialers dialers_now
+      → WorkOn links faults may_give c d workers now dialers dialers_now
   work_is a b c d workers lent_workers now dialers lent_dialers dialers_now first last its theirs work =
-      let P : BookRecord → Type 0 = λ x. WorkOn links faults x d workers now dialers dialers_now in
-      let Q : BookRecord → Type 0 = λ x. WorkOn links faults a x workers now dialers dialers_now in
-      let R : List WorkerRecord → Type 0 = λ x. WorkOn links faults a b x now dialers dialers_now in
-      let S : List N → Type 0 = λ x. WorkOn links faults a b lent_workers now x dialers_now in
+      let P : BookRecord → Type 0 = λ x. WorkOn links faults may_give x d workers now dialers dialers_now in
+      let Q : BookRecord → Type 0 = λ x. WorkOn links faults may_give a x workers now dialers dialers_now in
+      let R : List WorkerRecord → Type 0 = λ x. WorkOn links faults may_give a b x now dialers dialers_now in
+      let S : List N → Type 0 = λ x. WorkOn links faults may_give a b lent_workers now x dialers_now in
       subst P first (subst Q last (subst R its (subst S theirs work)))

@@ -1,5 +1,5 @@
 -- The way through a life. No promise to a caller names this.
-use Rattle.std.specs.Prelude.{◌≡◌, ℕ, suc, ◌<◌, List, [], ◌++◌, length, Option}
+use Rattle.std.specs.Prelude.{◌≡◌, ℕ, Bool, suc, ◌<◌, List, [], ◌++◌, length, Option}
 use Rattle.std.specs.List.{AllByRecursion, sum_by}
 use Rattle.world_traits.specs.Links.{Links}
 use Rattle.plant_book.specs.declared.book.Entry.{Entry}
@@ -43,10 +43,10 @@ pub record Grows (Fact : Entry → Type 0) (opened book : BookRecord) : Type 0 w
   pub each : AllByRecursion Fact more
 
 -- what all workers did in some rounds
-pub record WorkOn {N : Type 0} (links : N → Option Links) (faults : N → ℕ) (opened book : BookRecord)
-    (workers workers_now : List WorkerRecord) (dialers dialers_now : List N) : Type 0 where
+pub record WorkOn {N : Type 0} (links : N → Option Links) (faults : N → ℕ) (may_give : ℕ → Bool)
+    (opened book : BookRecord) (workers workers_now : List WorkerRecord) (dialers dialers_now : List N) : Type 0 where
   pub grows : Grows (IsOfOne workers) opened book
-  pub each : EachWorks links faults opened book workers workers_now dialers dialers_now
+  pub each : EachWorks links faults may_give opened book workers workers_now dialers dialers_now
   pub workers_stay : length workers_now ≡ length workers
   pub dialers_stay : length dialers_now ≡ length dialers
   pub behind : StayBehind (length workers) dialers dialers_now

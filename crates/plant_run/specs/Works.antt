@@ -1,6 +1,7 @@
 -- What one worker did, over any number of turns.
-use Rattle.std.specs.Prelude.{◌≡◌, ℕ, ◌+◌, ◌≤◌, List, [], ◌∷◌, ◌++◌, length, take, Option}
+use Rattle.std.specs.Prelude.{◌≡◌, ℕ, Bool, ◌+◌, ◌≤◌, List, [], ◌∷◌, ◌++◌, length, take, Option}
 use Rattle.world_traits.specs.Links.{Links}
+use Rattle.world_traits.specs.Clocks.{AreGiven}
 use Rattle.plant_book.specs.Book.{BookRecord}
 use Rattle.plant_ledger.specs.declared.plant.Goal.{Goal}
 use Rattle.ledger_desk.specs.Plain.{IsGoalOf}
@@ -56,9 +57,10 @@ IsAtRest step put = ⊥
 -- What the worker of a job did while a book grew from one to another: a run of the table from where it stood to where
 -- it stands, whose requests its log has gained. All that the run puts out was done, on the links of its dialer, and on
 -- a desk with the entries of its inverter alone; so each of these is a call of the run, and each call of the run is one
--- of these. Whatever it had read of the clock earlier, the times that came in the run are the readings that were taken.
-pub record Works (job : Job) (opened book : BookRecord) (before after : WorkerRecord) (links links_now : Option Links)
-    (faults faults_now : ℕ) : Type 0 where
+-- of these. Whatever it had read of the clock earlier, the times that came in the run are the readings that were taken,
+-- and each of them is one that the clock may give.
+pub record Works (may_give : ℕ → Bool) (job : Job) (opened book : BookRecord) (before after : WorkerRecord)
+    (links links_now : Option Links) (faults faults_now : ℕ) : Type 0 where
   pub run : List RunStep
   pub job_same : after.job ≡ job
   pub leads : LeadsTo job before.state run after.state
@@ -66,5 +68,6 @@ pub record Works (job : Job) (opened book : BookRecord) (before after : WorkerRe
   pub done : (earlier : List ℕ)
       → AreDone job output.Nothing run (own_world job.inverter opened links faults earlier before.unread)
       (own_world job.inverter book links_now faults_now (earlier ++ readings run) after.unread)
+  pub clock : AreGiven may_give (readings run)
   pub told : AreTold book job.inverter output.Nothing run (length (entries_of job.inverter opened.entries))
   pub rests : IsAtRest after.state.step (pending output.Nothing run)

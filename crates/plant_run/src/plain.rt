@@ -42,7 +42,7 @@ pub fn run_plain<N: Dialer, K: Clock>(
 
     // Each entry is a worker's. What each worker did, to its end, agrees with its entries and its dialer.
     ensures owned { AllByRecursion (IsOfOne workers.old.items) result.entries }
-    ensures works { EachWorks N.links N.faults (first_book plant) (first_book result) workers.old.items
+    ensures works { EachWorks N.links N.faults (K.may_give clock.now) (first_book plant) (first_book result) workers.old.items
         workers.new.items dialers.old.items dialers.new.items }
     ensures over { EachWorker IsOver workers.new.items }
 
@@ -68,7 +68,7 @@ fn make_rounds<N: Dialer, K: Clock>(
     requires differ { Differ workers.old }
     ensures whole { IsWhole desk.new }
     ensures life { life_of desk.new ≡ life_of desk.old }
-    ensures work { WorkOn N.links N.faults (book_of desk.old) (book_of desk.new) workers.old workers.new dialers.old
+    ensures work { WorkOn N.links N.faults (K.may_give clock.now) (book_of desk.old) (book_of desk.new) workers.old workers.new dialers.old
         dialers.new }
     ensures over { EachWorker IsOver workers.new }
 {
@@ -90,7 +90,7 @@ fn round<N: Dialer, K: Clock>(
     ensures life { life_of desk.new ≡ life_of desk.old }
     ensures seats { EachWorker (IsSeat (inverters desk.new.book.site)) workers.new }
     ensures differ { Differ workers.new }
-    ensures work { WorkOn N.links N.faults (book_of desk.old) (book_of desk.new) workers.old workers.new dialers.old
+    ensures work { WorkOn N.links N.faults (K.may_give clock.now) (book_of desk.old) (book_of desk.new) workers.old workers.new dialers.old
         dialers.new }
     ensures over { result ≡ false → EachWorker IsOver workers.new }
     ensures fewer { all_left workers.new + cond result 1 0 ≤ all_left workers.old }
@@ -118,7 +118,7 @@ fn one_turn<N: Dialer, K: Clock>(
     ensures rests { IsBetweenTurns worker.new.state.step }
     ensures grows { Grows (λ entry. is_workers worker.old.job.inverter entry.call ≡ true) (book_of desk.old)
         (book_of desk.new) }
-    ensures works { Works worker.old.job (book_of desk.old) (book_of desk.new) worker.old worker.new (N.links dialer.old)
+    ensures works { Works (K.may_give clock.now) worker.old.job (book_of desk.old) (book_of desk.new) worker.old worker.new (N.links dialer.old)
         (N.links dialer.new) (N.faults dialer.old) (N.faults dialer.new) }
     ensures over { result ≡ false → IsOver worker.new }
     ensures fewer { turns_left worker.new + cond result 1 0 ≤ turns_left worker.old }

@@ -42,21 +42,21 @@ opened_is plant opened none life = λ i. record {
   entries = none i;
 }
 
-works_as : (job other : Job) (turns : ℕ) (opened first book : BookRecord) (before after : WorkerRecord) (links links_now : Option Links) (faults faults_now : ℕ)
-    → before ≡ new_worker job turns → other ≡ job → opened ≡ first → Works job opened book before after links links_now faults faults_now
-    → Works other first book (new_worker other turns) after links links_now faults faults_now
-works_as job other turns opened first book before after links links_now faults faults_now new same is works =
-    let P : WorkerRecord → Type 0 = λ w. Works job opened book w after links links_now faults faults_now in
-    let Q : Job → Type 0 = λ j. Works j opened book (new_worker j turns) after links links_now faults faults_now in
-    let R : BookRecord → Type 0 = λ b. Works other b book (new_worker other turns) after links links_now faults faults_now in
+works_as : (may_give : ℕ → Bool) (job other : Job) (turns : ℕ) (opened first book : BookRecord) (before after : WorkerRecord) (links links_now : Option Links) (faults faults_now : ℕ)
+    → before ≡ new_worker job turns → other ≡ job → opened ≡ first → Works may_give job opened book before after links links_now faults faults_now
+    → Works may_give other first book (new_worker other turns) after links links_now faults faults_now
+works_as may_give job other turns opened first book before after links links_now faults faults_now new same is works =
+    let P : WorkerRecord → Type 0 = λ w. Works may_give job opened book w after links links_now faults faults_now in
+    let Q : Job → Type 0 = λ j. Works may_give j opened book (new_worker j turns) after links links_now faults faults_now in
+    let R : BookRecord → Type 0 = λ b. Works may_give other b book (new_worker other turns) after links links_now faults faults_now in
     subst R is (subst Q (sym same) (subst P new works))
 
-module _ {N : Type 0} (links : N → Option Links) (faults : N → ℕ) where
+module _ {N : Type 0} (links : N → Option Links) (faults : N → ℕ) (may_give : ℕ → Bool) where
   pub each_work : (file : SiteFileRecord) (turns count : ℕ) (opened plant : PartRecord) (workers workers_now : List WorkerRecord) (dialers dialers_now : List N)
       → opened.entries ≡ [] → plant ≡ record opened { entries = plant.entries } → AreSeated file turns count workers → length workers_now ≡ length workers
-      → EachWorks links faults (first_book opened) (first_book plant) workers workers_now dialers dialers_now → EachWorker IsOver workers_now
+      → EachWorks links faults may_give (first_book opened) (first_book plant) workers workers_now dialers dialers_now → EachWorker IsOver workers_now
       → (number : ℕ) (after : WorkerRecord) (old new : N) → slice_get workers_now number ≡ Some after → slice_get dialers number ≡ Some old → slice_get dialers_now number ≡ Some new
-      → IsWork file turns number plant after (links old) (links new) (faults old) (faults new)
+      → IsWork may_give file turns number plant after (links old) (links new) (faults old) (faults new)
   each_work file turns count opened plant workers workers_now dialers dialers_now none life are stay each over number after old new is its now =
       let within : number < length workers = omega (arith, slice_get_within workers_now number after is, stay) in
       let before = get_at workers number within in
@@ -64,13 +64,13 @@ module _ {N : Type 0} (links : N → Option Links) (faults : N → ℕ) where
       let works = each number before.0 after old new before.1 is its now in
       let J : Job → Type 0 = λ j. IsJobOf file number j in
       let first : BookRecord = first_book (record plant { entries = [] }) in
-      let whole : Works after.job first (first_book plant) (new_worker after.job turns) after (links old) (links new) (faults old) (faults new) =
-      works_as before.0.job after.job turns (first_book opened) first (first_book plant) before.0 after (links old) (links new) (faults old) (faults new)
+      let whole : Works may_give after.job first (first_book plant) (new_worker after.job turns) after (links old) (links new) (faults old) (faults new) =
+      works_as may_give before.0.job after.job turns (first_book opened) first (first_book plant) before.0 after (links old) (links new) (faults old) (faults new)
       seat.new works.job_same (ap first_book (opened_is plant opened none life)) works in
       record {
         job = subst J (sym works.job_same) seat.job;
         works = whole;
-        agrees = agrees first (first_book plant) (new_worker after.job turns) after (links old) (links new) (faults old) (faults new) whole refl refl;
+        agrees = agrees may_give first (first_book plant) (new_worker after.job turns) after (links old) (links new) (faults old) (faults new) whole refl refl;
         over = over number after is;
       }
 
@@ -78,7 +78,7 @@ module _ {N : Type 0} (links : N → Option Links) (faults : N → ℕ) where
   pub at_full : (file : SiteFileRecord) (turns : ℕ) (plant : PartRecord) (workers : List WorkerRecord) (dialers dialers_now : List N)
       → length workers ≤ length dialers → length dialers_now ≡ length dialers
       → ((number : ℕ) (after : WorkerRecord) (old new : N) → slice_get workers number ≡ Some after → slice_get dialers number ≡ Some old → slice_get dialers_now number ≡ Some new
-      → IsWork file turns number plant after (links old) (links new) (faults old) (faults new))
+      → IsWork may_give file turns number plant after (links old) (links new) (faults old) (faults new))
       → (number : ℕ) (worker : WorkerRecord) → slice_get workers number ≡ Some worker → IsAtFullBook worker → IsFull (first_book plant)
   at_full file turns plant workers dialers dialers_now few stay each number worker is full =
       let within : number < length workers = slice_get_within workers number worker is in

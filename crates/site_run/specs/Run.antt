@@ -47,10 +47,10 @@ pub record IsOpened (file : SiteFileRecord) (turns start : ℕ) (plant : PartRec
 
 -- What the worker of the inverter of this number did over a life, from its first turn to its end: a run of the table,
 -- which agrees with the life's book and with its dialer.
-pub record IsWork (file : SiteFileRecord) (turns number : ℕ) (plant : PartRecord) (after : WorkerRecord)
-    (links links_now : Option Links) (faults faults_now : ℕ) : Type 0 where
+pub record IsWork (may_give : ℕ → Bool) (file : SiteFileRecord) (turns number : ℕ) (plant : PartRecord)
+    (after : WorkerRecord) (links links_now : Option Links) (faults faults_now : ℕ) : Type 0 where
   pub job : IsJobOf file number after.job
-  pub works : Works after.job (first_book (record plant { entries = [] })) (first_book plant)
+  pub works : Works may_give after.job (first_book (record plant { entries = [] })) (first_book plant)
       (new_worker after.job turns) after links links_now faults faults_now
   pub agrees : Agrees after.job (first_book plant) works.run
       (own_world after.job.inverter (first_book (record plant { entries = [] })) links faults [] [])
@@ -82,7 +82,7 @@ pub record IsRun {N : Type 0} (links : N → Option Links) (faults : N → ℕ) 
   pub all : length workers ≡ inverters file.site
   pub each : (number : ℕ) (after : WorkerRecord) (old new : N) → slice_get workers number ≡ Some after
       → slice_get dialers number ≡ Some old → slice_get dialers_now number ≡ Some new
-      → IsWork file turns number plant after (links old) (links new) (faults old) (faults new)
+      → IsWork may_give file turns number plant after (links old) (links new) (faults old) (faults new)
   pub full : (number : ℕ) (worker : WorkerRecord) → slice_get workers number ≡ Some worker → IsAtFullBook worker
       → IsFull (first_book plant)
   pub dialers_stay : length dialers_now ≡ length dialers

@@ -1,6 +1,6 @@
 //! What is done with the ledger and with the clock.
 ghost use Rattle.std.specs.Prelude.{◌≡◌, ◌<◌, ◌≤◌, Some, length};
-ghost use Rattle.world_traits.specs.Clocks.{moment_max, readings_max};
+ghost use Rattle.world_traits.specs.Clocks.{AreGiven, moment_max, readings_max};
 ghost use Rattle.plant_ledger.specs.Opening.{ticket_for};
 ghost use Rattle.worker_turn.specs.Doing.{World, IsDone};
 ghost use Rattle.worker_turn.specs.Desks.{IsPlain, IsToldNow, TestsLast};
@@ -86,6 +86,8 @@ pub(crate) fn read_clock<K: Clock>(job: &Job, watch: &mut Watch<'_, K>) -> Input
     ensures done { (rest : World) → IsDone job.now Output.Now result
         (record rest { readings = watch.old.readings }) (record rest { readings = watch.new.readings }) }
     ensures plain { IsPlain result }
+    ensures given { AreGiven (K.may_give watch.old.clock) watch.old.readings
+        → AreGiven (K.may_give watch.old.clock) watch.new.readings }
     ensures clock { watch.new.clock ≡ watch.old.clock }
 {
     Input::Time(watch.now())

@@ -1,6 +1,6 @@
 //! One output of the table is done.
 ghost use Rattle.std.specs.Prelude.{◌≡◌, ◌<◌, ◌≤◌, length};
-ghost use Rattle.world_traits.specs.Clocks.{readings_max};
+ghost use Rattle.world_traits.specs.Clocks.{AreGiven, readings_max};
 ghost use Rattle.worker_turn.specs.Doing.{IsDone, world_of};
 ghost use Rattle.worker_turn.specs.Desks.{IsToldNow, TestsLast};
 ghost use Rattle.worker_turn.specs.Acts.{IsDoable, ticket_after};
@@ -36,6 +36,8 @@ pub(crate) fn perform<D: Desk, N: Dialer, K: Clock>(
         (D.ended desk.old) (D.ended desk.new) (D.was_full_life desk.old) (D.was_full_life desk.new) }
     ensures kept { D.kept desk.new ≡ D.kept desk.old }
     ensures ticket { result.ticket ≡ ticket_after output result.input ticket }
+    ensures given { AreGiven (K.may_give watch.old.clock) watch.old.readings
+        → AreGiven (K.may_give watch.old.clock) watch.new.readings }
     ensures clock { watch.new.clock ≡ watch.old.clock }
 {
     match output {

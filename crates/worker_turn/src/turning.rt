@@ -1,5 +1,6 @@
 //! A turn is gone through, one output after another.
 ghost use Rattle.std.specs.Prelude.{◌≡◌, ◌<◌, ◌≤◌, ◌+◌, ◌++◌, ℕ, [], length, vec_len, vec_capacity, Some};
+ghost use Rattle.world_traits.specs.Clocks.{AreGiven};
 ghost use Rattle.inverter_worker.specs.declared.state.State.{State as Record};
 ghost use Rattle.inverter_worker.specs.declared.input.Input.{Input as Cause};
 ghost use Rattle.inverter_worker.specs.declared.output.Output.TheVariants.{Send};
@@ -40,6 +41,7 @@ pub(crate) fn go_on<D: Desk, N: Dialer, K: Clock>(
     ensures last { TestsLast (D.may_tell desk.old) (D.may_tell desk.new) (D.was_full desk.old) (D.was_full desk.new)
         (D.ended desk.old) (D.ended desk.new) (D.was_full_life desk.old) (D.was_full_life desk.new) }
     ensures kept { D.kept desk.new ≡ D.kept desk.old }
+    ensures given { AreGiven (K.may_give watch.old.clock) watch.new.readings }
     ensures clock { watch.new.clock ≡ watch.old.clock }
 {
     let (mut state, mut output) = begun;

@@ -40,6 +40,7 @@ impl Model for Worker {
 }
 
 impl Worker {
+    ghost use Rattle.world_traits.specs.Clocks.{AreGiven};
     ghost use Rattle.worker_turn.specs.Doing.{world_of};
     ghost use Rattle.worker_turn.specs.Desks.{TestsLast};
     ghost use Rattle.worker_turn.specs.Worker.{Answers, IsTurn, new_worker};
@@ -105,6 +106,7 @@ impl Worker {
             (world_of (D.state desk.new) (N.links dialer.new) (N.faults dialer.new) watch.new.readings
             self.new.unread) }
         ensures few { length watch.new.readings ≤ 6 }
+        ensures given { AreGiven (K.may_give watch.old.clock) watch.new.readings }
 
         // Where it found no memory it did nothing else.
         ensures memory { self.new.state.step ≡ Step.Over End.NoMemory → (self.new.log ≡ self.old.log)

@@ -10,7 +10,7 @@ loop-init g c = record {
   life = refl;
   seats = c.requires.seats;
   differ = c.requires.differ;
-  work = seats.none g.N.Dialer.links g.N.Dialer.faults (book_of c.args.desk.now) c.args.workers.now c.args.dialers.now
+  work = seats.none g.N.Dialer.links g.N.Dialer.faults (g.K.Clock.may_give c.args.clock.now) (book_of c.args.desk.now) c.args.workers.now c.args.dialers.now
       (inverters c.args.desk.now.book.site) c.requires.seats;
 }
 
@@ -20,13 +20,13 @@ loop-preserved g c = record {
   life = c.round.ensures.life ∙ c.loop.invariant.life;
   seats = c.round.ensures.seats;
   differ = c.round.ensures.differ;
-  work = seats.more g.N.Dialer.links g.N.Dialer.faults (book_of c.args.desk.now) (book_of c.loop.desk) (book_of c.round.new.desk)
+  work = seats.more g.N.Dialer.links g.N.Dialer.faults (g.K.Clock.may_give c.args.clock.now) (book_of c.args.desk.now) (book_of c.loop.desk) (book_of c.round.new.desk)
       c.args.workers.now c.loop.workers c.round.new.workers c.args.dialers.now c.loop.dialers c.round.new.dialers c.requires.dialers
       c.loop.invariant.work c.round.ensures.work;
 }
 
 pub returns-clause-work : goal.returns-clause-work
 returns-clause-work g c =
-    seats.more g.N.Dialer.links g.N.Dialer.faults (book_of c.args.desk.now) (book_of c.loop.desk) (book_of c.round.new.desk)
+    seats.more g.N.Dialer.links g.N.Dialer.faults (g.K.Clock.may_give c.args.clock.now) (book_of c.args.desk.now) (book_of c.loop.desk) (book_of c.round.new.desk)
     c.args.workers.now c.loop.workers c.round.new.workers c.args.dialers.now c.loop.dialers c.round.new.dialers c.requires.dialers
     c.loop.invariant.work c.round.ensures.work

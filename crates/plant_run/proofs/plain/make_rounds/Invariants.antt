@@ -12,7 +12,7 @@ invariant-loop g l = record {
   life : life_of l.desk ≡ life_of l.fn.desk;
   seats : EachWorker (IsSeat (inverters l.desk.book.site)) l.workers;
   differ : Differ l.workers;
-  work : WorkOn g.N.Dialer.links g.N.Dialer.faults (book_of l.fn.desk) (book_of l.desk) l.fn.workers l.workers l.fn.dialers l.dialers;
+  work : WorkOn g.N.Dialer.links g.N.Dialer.faults (g.K.Clock.may_give l.fn.clock) (book_of l.fn.desk) (book_of l.desk) l.fn.workers l.workers l.fn.dialers l.dialers;
 }
 
 -- each round leaves fewer turns

@@ -37,7 +37,7 @@ loop-place-preserved g c =
     let did = c.one_turn.ensures in
     let invariant = c.loop-place.invariant in
     let count = inverters c.loop-place.desk.book.site in
-    let one = seats.one g.N.Dialer.links g.N.Dialer.faults (book_of c.loop-place.desk) (book_of c.one_turn.new.desk) workers dialers count place before after dialer
+    let one = seats.one g.N.Dialer.links g.N.Dialer.faults (g.K.Clock.may_give c.args.clock.now) (book_of c.loop-place.desk) (book_of c.one_turn.new.desk) workers dialers count place before after dialer
     c.one_turn.new.dialer invariant.seats invariant.differ within dialed was had did.grows did.works in
     let job = did.works.job_same in
     let same : inverters c.one_turn.new.desk.book.site ≡ count = ap (λ (l : LifeRecord). inverters l.site) did.life in
@@ -48,7 +48,7 @@ loop-place-preserved g c =
       life = did.life ∙ invariant.life;
       seats = seats_after workers place before after within was count (inverters c.one_turn.new.desk.book.site) same job did.rests invariant.seats;
       differ = differ_after workers place before after within was job invariant.differ;
-      work = seats.more g.N.Dialer.links g.N.Dialer.faults (book_of c.args.desk.now) (book_of c.loop-place.desk) (book_of c.one_turn.new.desk)
+      work = seats.more g.N.Dialer.links g.N.Dialer.faults (g.K.Clock.may_give c.args.clock.now) (book_of c.args.desk.now) (book_of c.loop-place.desk) (book_of c.one_turn.new.desk)
           c.args.workers.now workers _ c.args.dialers.now dialers _ enough invariant.work one;
       over = λ none. over_after workers place before after within was c.one_turn.result c.loop-place.again did.over invariant.over (sym now ∙ none);
       fewer = subst (λ b. all_left (set workers place after) + cond b 1 0 ≤ all_left c.args.workers.now) (sym now)

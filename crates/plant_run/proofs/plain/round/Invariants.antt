@@ -14,7 +14,7 @@ invariant-loop-place g l = record {
   life : life_of l.desk ≡ life_of l.fn.desk;
   seats : EachWorker (IsSeat (inverters l.desk.book.site)) l.workers;
   differ : Differ l.workers;
-  work : WorkOn g.N.Dialer.links g.N.Dialer.faults (book_of l.fn.desk) (book_of l.desk) l.fn.workers l.workers l.fn.dialers l.dialers;
+  work : WorkOn g.N.Dialer.links g.N.Dialer.faults (g.K.Clock.may_give l.fn.clock) (book_of l.fn.desk) (book_of l.desk) l.fn.workers l.workers l.fn.dialers l.dialers;
   over : l.again ≡ false → (place : ℕ) (worker : WorkerRecord) → place < l.place → slice_get l.workers place ≡ Some worker → IsOver worker;
   fewer : all_left l.workers + cond l.again 1 0 ≤ all_left l.fn.workers;
 }

@@ -23,11 +23,11 @@ make_rounds-requires-clause-differ g c =
     let P : List WorkerRecord → Type 0 = λ ws. Differ ws in subst P (sym c.deref_mut.ensures.value) c.requires.differ
 
 -- what all workers did
-work : (g : given.Over) (c : goal.After-into_plant g) → WorkOn g.N.Dialer.links g.N.Dialer.faults (first_book c.args.plant) (first_book c.into_plant.result)
+work : (g : given.Over) (c : goal.After-into_plant g) → WorkOn g.N.Dialer.links g.N.Dialer.faults (g.K.Clock.may_give c.args.clock.now) (first_book c.args.plant) (first_book c.into_plant.result)
     c.args.workers.now.items c.make_rounds.new.workers c.args.dialers.now.items c.make_rounds.new.dialers
 work g c =
     let desk = c.make_rounds.new.desk in
-    work_is g.N.Dialer.links g.N.Dialer.faults (book_of c.new-desk.result) (book_of desk) (first_book c.args.plant) (first_book c.into_plant.result)
+    work_is g.N.Dialer.links g.N.Dialer.faults (g.K.Clock.may_give c.args.clock.now) (book_of c.new-desk.result) (book_of desk) (first_book c.args.plant) (first_book c.into_plant.result)
     c.args.workers.now.items c.deref_mut.result.now c.make_rounds.new.workers c.args.dialers.now.items c.deref_mut-2.result.now c.make_rounds.new.dialers
     (ap book_of c.new-desk.ensures)
     (book_is desk c.make_rounds.ensures.whole c.into_plant.ensures.whole ∙ ap first_book (sym c.into_plant.ensures.book))
@@ -61,9 +61,9 @@ dialers_now g c =
 
 pub returns-clause-works : goal.returns-clause-works
 returns-clause-works g c =
-    let P : List WorkerRecord → Type 0 = λ ws. EachWorks g.N.Dialer.links g.N.Dialer.faults (first_book c.args.plant) (first_book c.into_plant.result)
+    let P : List WorkerRecord → Type 0 = λ ws. EachWorks g.N.Dialer.links g.N.Dialer.faults (g.K.Clock.may_give c.args.clock.now) (first_book c.args.plant) (first_book c.into_plant.result)
     c.args.workers.now.items ws c.args.dialers.now.items c.make_rounds.new.dialers in
-    let Q : List g.row.N.Denot → Type 0 = λ ds. EachWorks g.N.Dialer.links g.N.Dialer.faults (first_book c.args.plant) (first_book c.into_plant.result)
+    let Q : List g.row.N.Denot → Type 0 = λ ds. EachWorks g.N.Dialer.links g.N.Dialer.faults (g.K.Clock.may_give c.args.clock.now) (first_book c.args.plant) (first_book c.into_plant.result)
     c.args.workers.now.items (take c.args.workers.now.len (c.make_rounds.new.workers ++ drop (length c.make_rounds.new.workers) c.args.workers.now.items))
     c.args.dialers.now.items ds in
     subst Q (sym (dialers_now g c)) (subst P (sym (workers_now g c)) (work g c).each)

@@ -37,7 +37,7 @@ returns-clause-ran g c =
     omega (arith, run.dialers_stay, c.run_plain-plant.new.dialers.ok, c.args.dialers.now.ok) in
     let few : length after ≤ length c.args.dialers.now.items = omega (arith, all, c.requires.dialers, c.args.dialers.now.ok) in
     let many : vec_len c.in_ok-plant.field-0.workers ≡ count = omega (arith, c.in_ok-plant.field-0.workers.ok, seated.all) in
-    let each = each_work g.N.Dialer.links g.N.Dialer.faults c.args.file c.args.turns count opened plant before after c.args.dialers.now.items c.run_plain-plant.new.dialers.items
+    let each = each_work g.N.Dialer.links g.N.Dialer.faults (g.K.Clock.may_give c.args.clock.now) c.args.file c.args.turns count opened plant before after c.args.dialers.now.items c.run_plain-plant.new.dialers.items
     (ap (λ (p : PartRecord). p.entries) empty) run.life seated stay run.works run.over in
     record {
       site = ap (λ (p : PartRecord). p.site) run.life ∙ ap (λ (p : PartRecord). p.site) empty;
@@ -48,7 +48,7 @@ returns-clause-ran g c =
       owned = owned c.args.file c.args.turns count before plant.entries seated run.owned;
       all = all;
       each = each;
-      full = at_full g.N.Dialer.links g.N.Dialer.faults c.args.file c.args.turns plant after c.args.dialers.now.items c.run_plain-plant.new.dialers.items few dialers_stay each;
+      full = at_full g.N.Dialer.links g.N.Dialer.faults (g.K.Clock.may_give c.args.clock.now) c.args.file c.args.turns plant after c.args.dialers.now.items c.run_plain-plant.new.dialers.items few dialers_stay each;
       dialers_stay = dialers_stay;
       behind = subst (λ (n : ℕ). StayBehind n c.args.dialers.now.items c.run_plain-plant.new.dialers.items) many run.behind;
     }

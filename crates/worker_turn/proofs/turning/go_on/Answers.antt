@@ -1,5 +1,6 @@
-use Rattle.std.proofs.Common.{◌≡◌, false, ◌++◌, ◌∷◌, [], ◌<◌, refl, sym, ap, ◌∙◌, arith, length, length-append}
+use Rattle.std.proofs.Common.{◌≡◌, false, ◌++◌, ◌∷◌, [], ◌<◌, refl, sym, ap, subst, ◌∙◌, arith, length, length-append}
 use Rattle.std.specs.Prelude.{vec_len, vec_capacity}
+use Rattle.world_traits.specs.Clocks.{AreGiven}
 use Rattle.inverter_worker.specs.declared.output.Output.TheVariants as output
 use Rattle.inverter_worker.specs.Turns.{reading_in}
 use Rattle.inverter_worker.proofs.Turns.{requests_left}
@@ -24,6 +25,7 @@ loop-output-init g c =
       kept = refl;
       ticket = begins_held c.args.job.now begun.0.step begun.1 c.requires.begun;
       clock = refl;
+      given = λ place other within. absurd (omega (arith, none, within));
       readings = omega (arith, none, begins_clock c.args.job.now begun.0.step begun.1 c.requires.begun);
       room = begins_room c.args.job.now begun.0.step begun.1 (vec_len c.args.log.now) (vec_capacity c.args.log.now) c.requires.begun c.requires.room;
     }
@@ -74,6 +76,9 @@ loop-output-preserved g c =
       kept = c.perform-came.ensures.kept ∙ invariant.kept;
       ticket = c.perform-came.ensures.ticket ∙ ap (ticket_after last came) invariant.ticket ∙ goes.ticket;
       clock = c.perform-came.ensures.clock ∙ invariant.clock;
+      given =
+          let P : g.row.K.Denot → Type 0 = λ clock. AreGiven (g.K.Clock.may_give clock) c.loop-output.watch.readings → AreGiven (g.K.Clock.may_give clock) c.perform-came.new.watch.readings in
+          subst P invariant.clock c.perform-came.ensures.given invariant.given;
       readings = omega (arith, read, grown, used.clock, invariant.readings);
       room = λ some. let before : 0 < requests_left state.step = omega (arith, used.requests, some) in
           omega (arith, invariant.room before, used.requests, c.next.ensures.len, c.next.ensures.capacity);

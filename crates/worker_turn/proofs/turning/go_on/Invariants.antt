@@ -1,5 +1,6 @@
 use Rattle.std.proofs.Common.{◌≡◌, ◌+◌, ◌<◌, ◌≤◌, List, length}
 use Rattle.std.specs.Prelude.{vec_len, vec_capacity}
+use Rattle.world_traits.specs.Clocks.{AreGiven}
 use Rattle.inverter_worker.specs.Runs.{RunStep}
 use Rattle.inverter_worker.proofs.Turns.{steps_left, clock_left, requests_left}
 use Rattle.worker_turn.specs.Doing.{world_of}
@@ -20,6 +21,7 @@ invariant-loop-output g l = record {
   kept : g.D.Desk.kept l.desk ≡ g.D.Desk.kept l.fn.desk;
   ticket : l.ticket ≡ held l.state.step;
   clock : l.watch.clock ≡ l.fn.watch.clock;
+  given : AreGiven (g.K.Clock.may_give l.fn.watch.clock) l.watch.readings;
   readings : length l.watch.readings + clock_left l.state.step ≤ 6;
   room : 0 < requests_left l.state.step → vec_len l.log + requests_left l.state.step ≤ vec_capacity l.log;
 }

@@ -39,6 +39,7 @@ returns g c =
       job = ap (λ (w : WorkerRecord). w.job) view;
       turn = λ _. subst Q view turn;
       few = few may_tell was_full before after old new turn;
+      given = c.go_on-state.ensures.given;
       memory = λ short. let i = idle may_tell was_full before.job begun.0 after.state begun.1 before.log after.log old new goes short in (
         i.0 ∙ ap (λ (w : WorkerRecord). w.log) view,
         i.1 ∙ ap (λ (w : WorkerRecord). world_of desk links faults readings w.unread) view,
