@@ -1,6 +1,7 @@
 -- Reading a script line by line.
-use Rattle.std.proofs.Common.{◌≡◌, ℕ, ◌+◌, ◌^◌, ◌<◌, List, [], ◌∷◌, ◌++◌, length, map, refl, sym, ap, subst, ◌∙◌, append_assoc}
+use Rattle.std.proofs.Common.{◌≡◌, ℕ, ◌+◌, ◌^◌, ◌<◌, List, [], ◌∷◌, ◌++◌, length, map, Option, Some, None, Result, Ok, Err, Bool, true, false, refl, sym, ap, subst, ◌∙◌, append_assoc}
 use denote.Ref.{Bor}
+use Rattle.std.specs.Prelude.{is_some}
 use Rattle.std.proofs.lemmas.List.{append-nil, map_push}
 use Rattle.plant_book.specs.declared.site.Unit as unit
 use Rattle.plant_book.specs.Site.{SiteRecord}
@@ -10,9 +11,10 @@ use Rattle.script_text.specs.declared.rows.Rows.{Rows}
 use Rattle.script_text.specs.declared.lines.Lines.{Lines}
 use Rattle.script_text.specs.declared.fault.ScriptFault.{ScriptFault}
 use Rattle.script_text.specs.Grammar.{Statement, Begin, Says}
-use Rattle.script_text.specs.Script.{ScriptRecord, last_of, moment_on, site_statement, inverter_statement, head_statements, script_statements, IsScript}
-use Rattle.script_text.specs.Progress.{Progress, IsAt, Explains, SiteTaken, UnitsTaken, IsBegun, OneLineTaken, LineFault}
-use Rattle.script_text.specs.Reader.{CanGoOn, HasRead, LineRead, FaultExplained, with_lines}
+use Rattle.script_text.specs.Script.{ScriptRecord, HasNoBadLine, last_of, moment_on, site_statement, inverter_statement, head_statements, script_statements, IsScript}
+use Rattle.script_text.specs.Progress.{Progress, IsAt, Explains, SiteTaken, UnitsTaken, UnitsCounted, IsBegun, OneLineTaken, LineFault}
+use Rattle.script_text.specs.Reader.{CanGoOn, HasRead, LineRead, NextRead, FaultExplained, AreLast, with_lines}
+use Rattle.script_text.proofs.Once.{not_both}
 use Rattle.script_text.proofs.Steps.{begun_on}
 use Rattle.script_text.proofs.Taken.{first_rows, lines_begun, head_begun, whole_script}
 
@@ -71,3 +73,26 @@ none_more bytes script lines has =
 pub one_behind : (bytes : List ℕ) (script : ScriptRecord) (taken : List Line) (line : Line) (old new : Lines) → LineRead old line new → HasRead bytes (with_lines script taken) old → HasRead bytes (with_lines script (taken ++ line ∷ [])) new
 one_behind bytes script taken line old new one has =
     subst (λ (its : List Line). HasRead bytes (record_of script.site script.start its) new) (append_assoc script.lines taken (line ∷ [])) (one.goes_on bytes (with_lines script taken) has)
+
+-- judging without taking lines
+
+pub some_line : (found : Option Line) (old new : Lines) → is_some found ≡ true → NextRead old new (Ok found) → (line : Line) × LineRead old line new
+some_line (Some line) old new some one = (line, one)
+some_line None old new some ends = absurd cc
+
+pub no_line_left : (found : Option Line) (old new : Lines) → is_some found ≡ false → NextRead old new (Ok found) → (bytes : List ℕ) (script : ScriptRecord) → HasRead bytes script old → IsScript bytes script
+no_line_left (Some line) old new none one = absurd cc
+no_line_left None old new none ends = ends
+
+pub none_bad : (bytes : List ℕ) (script : ScriptRecord) (left : Lines) → AreLast left → HasRead bytes script left → HasNoBadLine bytes
+none_bad bytes script left last has line kind bad =
+    let rest = last bytes script has in
+    not_both bytes (with_lines script rest.0) line kind rest.1 bad
+
+abbrev site_counted : sites.SiteLine → List unit.Unit → SiteRecord
+site_counted site units = record { cap = site.cap; rules = site.rules; policy = site.policy; room = site.room; units = units }
+
+pub head_counted : (bytes : Bor (List ℕ)) (rows behind : Rows) (site : sites.SiteLine) (start inverters : ℕ) → SiteTaken (first_rows bytes) site rows → (counted : UnitsCounted rows inverters start behind)
+    → HasRead bytes.now (record_of (site_counted site counted.units) start []) (record { rows = behind; inverters = inverters; latest = start })
+head_counted bytes rows behind site start inverters taken counted =
+    head_read bytes rows behind site counted.units start inverters (site_counted site counted.units) taken counted.taken counted.inverters_are refl

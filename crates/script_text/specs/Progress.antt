@@ -15,7 +15,7 @@ use Rattle.script_text.specs.declared.rows.Row.TheVariants as row
 use Rattle.script_text.specs.declared.fault.ScriptFault.{ScriptFault}
 use Rattle.script_text.specs.declared.fault.ScriptFault.TheVariants as faults
 use Rattle.script_text.specs.Grammar.{Statement, Begin, Says}
-use Rattle.script_text.specs.Script.{Say, statements_of, MayFollow, Lacks, EachMayFollow, IsFirstBadLine, InRange, begins_in, inverters_in, latest_in, site_statement, inverter_statement}
+use Rattle.script_text.specs.Script.{Say, statements_of, MayFollow, Lacks, EachMayFollow, IsFirstBadLine, HasNoBadLine, InRange, begins_in, inverters_in, latest_in, site_statement, inverter_statement}
 use Rattle.script_text.specs.Reading.{statement_of}
 
 -- the rows before the rest say these statements, each of which may follow those before it; so many rows and one
@@ -29,9 +29,9 @@ pub record Progress (bytes rest : List ℕ) (statements : List Statement) (numbe
   pub each : EachMayFollow [] statements
   pub count : number ≡ length before + 1
 
--- why bytes are no script
+-- why bytes are read as no script: for want of memory only where they have no bad line
 abbrev pub Explains : ScriptFault → List ℕ → Type 0
-Explains faults.NoMemory bytes = Unit {0}
+Explains faults.NoMemory bytes = HasNoBadLine bytes
 Explains (faults.BadLine line kind) bytes = IsFirstBadLine bytes line kind
 
 -- the rows that are still to be read, behind these statements
@@ -112,6 +112,12 @@ pub record UnitsTaken (rows : Rows) (units : List unit.Unit) (start : ℕ) (behi
   pub count : length units < 2 ^ 32
   pub is_at : (site : Statement) → begins_in (site ∷ []) ≡ [] → IsAt rows (site ∷ [])
       → IsAt behind (site ∷ map inverter_statement units ++ Begin start ∷ [])
+
+-- so many inverters and the begin stand behind the site line
+pub record UnitsCounted (rows : Rows) (inverters start : ℕ) (behind : Rows) : Type 0 where
+  pub units : List unit.Unit
+  pub inverters_are : inverters ≡ length units
+  pub taken : UnitsTaken rows units start behind
 
 abbrev pub UnitsFault : Rows → ScriptFault → Type 0
 UnitsFault rows fault =

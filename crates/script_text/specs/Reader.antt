@@ -39,6 +39,11 @@ pub record LineRead (old : Lines) (line : Line) (new : Lines) : Type 0 where
 abbrev pub FaultExplained : Lines → ScriptFault → Type 0
 FaultExplained lines fault = (bytes : List ℕ) (script : ScriptRecord) → HasRead bytes script lines → Explains fault bytes
 
+-- the lines that are left are those of a script
+abbrev pub AreLast : Lines → Type 0
+AreLast lines = (bytes : List ℕ) (script : ScriptRecord) → HasRead bytes script lines
+    → (more : List Line) × IsScript bytes (with_lines script more)
+
 -- what came of reading one more line: the line, the end of the script, or its first bad line
 abbrev pub NextRead : Lines → Lines → Result (Option Line) ScriptFault → Type 0
 NextRead old new (Ok (Some line)) = LineRead old line new

@@ -170,3 +170,7 @@ pub record IsFirstBadLine (bytes : List ℕ) (number : ℕ) (kind : LineKind) : 
   pub each : EachMayFollow [] (statements_of said)
   pub bad : IsBad kind (statements_of said) rest
   pub count : number ≡ length before + 1
+
+-- the bytes have no bad line
+abbrev pub HasNoBadLine : List ℕ → Type 0
+HasNoBadLine bytes = (line : ℕ) (kind : LineKind) → IsFirstBadLine bytes line kind → ⊥

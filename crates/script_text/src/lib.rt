@@ -23,6 +23,6 @@ mod text;
 pub use fault::ScriptFault;
 pub use laws::{lines_are_few, one_reading, texts_read_back};
 pub use line::{Line, LineKind};
-pub use lines::{Begun, Lines, read_head};
+pub use lines::{Begun, Lines, judge_rest, read_head};
 pub use script::{SCRIPT_BYTES_MAX, Script, script_of};
 pub use text::{entry_text, head_text, restart_text, roll_text};

@@ -1,12 +1,13 @@
 ghost use Rattle.std.specs.Prelude.{◌≤◌, length, MatchResult};
+ghost use Rattle.script_text.specs.Script.{HasNoBadLine};
 ghost use Rattle.script_text.specs.Progress.{Explains};
-ghost use Rattle.script_text.specs.Reader.{CanGoOn, HasRead, NextRead, script_begun};
+ghost use Rattle.script_text.specs.Reader.{AreLast, CanGoOn, FaultExplained, HasRead, NextRead, script_begun};
 
 use crate::fault::ScriptFault;
 use crate::judging::moment_after;
 use crate::line::Line;
 use crate::rows::Rows;
-use crate::script::{SCRIPT_BYTES_MAX, read_line, read_site, read_units};
+use crate::script::{SCRIPT_BYTES_MAX, count_units, read_line, read_site, read_units};
 use plant_book::Site;
 use std::alloc::Global;
 
@@ -74,4 +75,45 @@ pub fn read_head(alloc: Global, bytes: &[u8]) -> Result<Begun<'_>, ScriptFault>
         start,
         lines,
     })
+}
+
+/// Judges the lines that are left, and takes no memory for them.
+pub fn judge_rest(lines: &mut Lines<'_>) -> Result<(), ScriptFault>
+    requires { CanGoOn lines.old }
+    ensures { MatchResult result (λ _. AreLast lines.old) (λ fault. FaultExplained lines.old fault) }
+{
+    while lines.next_line()?.is_some() {}
+    Ok(())
+}
+
+/// Judges a whole script, and takes no memory for it.
+fn judge(bytes: &[u8]) -> Result<(), ScriptFault>
+    requires { length bytes.now ≤ SCRIPT_BYTES_MAX }
+    ensures { MatchResult result (λ _. HasNoBadLine bytes.now) (λ fault. Explains fault bytes.now) }
+{
+    let rows = Rows {
+        whole: bytes,
+        rest: bytes,
+        number: 1,
+    };
+    let (_, rows) = read_site(rows)?;
+    let (inverters, latest, rows) = count_units(rows)?;
+    let mut lines = Lines {
+        rows,
+        inverters,
+        latest,
+    };
+    judge_rest(&mut lines)?;
+    Ok(())
+}
+
+/// The fault of a script for which memory ran out: its first bad line, if it has one.
+pub fn out_of_memory(bytes: &[u8]) -> ScriptFault
+    requires { length bytes.now ≤ SCRIPT_BYTES_MAX }
+    ensures { Explains result bytes.now }
+{
+    match judge(bytes) {
+        Ok(()) => ScriptFault::NoMemory,
+        Err(fault) => fault,
+    }
 }

@@ -1,7 +1,7 @@
 ghost use Rattle.std.specs.Prelude.{◌≡◌, ℕ, ◌+◌, ◌-◌, ◌^◌, ◌<◌, ◌≤◌, List, [], length, IfOk, IfErr, MatchResult};
 ghost use Rattle.script_text.specs.Grammar.{Statement, Begin, Says};
 ghost use Rattle.script_text.specs.Script.{ScriptRecord, IsScript};
-ghost use Rattle.script_text.specs.Progress.{IsAt, Said, Explains, HeadFault, SiteTaken, HeadLineTaken, HeadLineFault, UnitsTaken, UnitsFault};
+ghost use Rattle.script_text.specs.Progress.{IsAt, Said, Explains, HeadFault, SiteTaken, HeadLineTaken, HeadLineFault, UnitsTaken, UnitsCounted, UnitsFault};
 ghost use Rattle.script_text.specs.Progress.{LineTaken};
 ghost use Rattle.script_text.specs.Reader.{CanGoOn, HasRead, FaultExplained, with_lines};
 
@@ -10,7 +10,7 @@ use crate::fields::Fields;
 use crate::head::{HeadLine, SiteLine};
 use crate::judging::{judge_head, judge_line, judge_site, moment_after};
 use crate::line::{Line, LineKind};
-use crate::lines::{Begun, Lines, read_head};
+use crate::lines::{Begun, Lines, judge_rest, out_of_memory, read_head};
 use crate::rows::{Row, Rows, next_row};
 use limiter_num::NoMemory;
 use plant_book::{Site, Unit};
@@ -111,7 +111,8 @@ pub fn read_units(
     alloc: Global,
     mut rows: Rows<'_>,
 ) -> Result<(Vec<Unit>, u64, Rows<'_>), ScriptFault>
-    requires { rows.number + length rows.rest.now < 2 ^ 32 }
+    requires few { rows.number + length rows.rest.now < 2 ^ 32 }
+    requires short { length rows.whole.now ≤ SCRIPT_BYTES_MAX }
     ensures { MatchResult result
         (λ found. UnitsTaken rows.entry found.0.items found.1 found.2)
         (λ fault. UnitsFault rows.entry fault) }
@@ -122,10 +123,28 @@ pub fn read_units(
         match line {
             HeadLine::Inverter(unit) => {
                 if units.push(unit).is_err() {
-                    return Err(ScriptFault::NoMemory);
+                    return Err(out_of_memory(rows.whole));
                 }
             }
             HeadLine::Begin(start) => return Ok((units, start, behind)),
+        }
+        rows = behind;
+    }
+}
+
+/// How many inverters stand behind the site line, the begin, and the rows behind it. It takes no memory.
+pub fn count_units(mut rows: Rows<'_>) -> Result<(usize, u64, Rows<'_>), ScriptFault>
+    requires { rows.number + length rows.rest.now < 2 ^ 32 }
+    ensures { MatchResult result
+        (λ found. UnitsCounted rows.entry found.0 found.1 found.2)
+        (λ fault. UnitsFault rows.entry fault) }
+{
+    let mut inverters = 0;
+    loop {
+        let (line, behind) = read_head_line(rows)?;
+        match line {
+            HeadLine::Inverter(_) => inverters += 1,
+            HeadLine::Begin(start) => return Ok((inverters, start, behind)),
         }
         rows = behind;
     }
@@ -163,13 +182,14 @@ fn all_lines(alloc: Global, lines: &mut Lines<'_>) -> Result<Vec<Line>, ScriptFa
     let mut taken = Vec::new(alloc);
     while let Some(line) = lines.next_line()? {
         if taken.push(line).is_err() {
+            judge_rest(lines)?;
             return Err(ScriptFault::NoMemory);
         }
     }
     Ok(taken)
 }
 
-/// The script that the bytes spell, or their first bad line with its kind.
+/// The script that the bytes spell, or their first bad line with its kind. A bad line comes before want of memory.
 pub fn script_of(alloc: Global, bytes: &[u8]) -> Result<Script, ScriptFault>
     requires { length bytes.now ≤ SCRIPT_BYTES_MAX }
     ensures script { IfOk result (λ script. IsScript bytes.now script) }

@@ -1,7 +1,7 @@
 use Rattle.std.proofs.Common.{◌≡◌, ◌∷◌, [], ◌++◌, rules}
 use Rattle.std.proofs.lemmas.Result.{err_from_is_err_and}
 use Rattle.script_text.specs.Reader.{with_lines}
-use Rattle.script_text.proofs.Reader.{one_behind}
+use Rattle.script_text.proofs.Reader.{none_bad, one_behind}
 use Rattle.script_text.proofs.script.all_lines.Goals as goal
 
 pub returns-in_err-line : goal.returns-in_err-line
@@ -17,3 +17,14 @@ loop-taken-preserved c =
       can_go_on = one.can_go_on;
       read = λ bytes script has. rw items (one_behind bytes script c.loop-taken.taken.items c.in-Some.line c.loop-taken.lines c.next_line.new.self one (c.loop-taken.invariant.read bytes script has));
     }
+
+pub returns-in_err-judge_rest : goal.returns-in_err-judge_rest
+returns-in_err-judge_rest c =
+    let one = rw c.in-Some.is at c.in_ok-line.ensures in
+    let p = err_from_is_err_and c.from_residual-in_err-judge_rest.result c.from_residual-in_err-judge_rest.ensures.1 in
+    rw (p.1, p.2) (λ bytes script has. c.in_err-judge_rest.ensures bytes _ (one_behind bytes script c.loop-taken.taken.items c.in-Some.line c.loop-taken.lines c.next_line.new.self one (c.loop-taken.invariant.read bytes script has)))
+
+pub returns-then-is_err : goal.returns-then-is_err
+returns-then-is_err c =
+    let one = rw c.in-Some.is at c.in_ok-line.ensures in
+    λ bytes script has. none_bad bytes _ c.next_line.new.self c.in_ok-judge_rest.ensures (one_behind bytes script c.loop-taken.taken.items c.in-Some.line c.loop-taken.lines c.next_line.new.self one (c.loop-taken.invariant.read bytes script has))
