@@ -1,6 +1,6 @@
 -- Deeds one behind the other, and what a line of a script may rely on.
 use Rattle.std.proofs.Common.{◌≡◌, ℕ, suc, true, false, ◌+◌, ◌<◌, ◌≤◌, max, List, [], ◌∷◌, ◌++◌, length, map, take, drop, get_or, Option, Some, None, Result, Ok, Err, refl, sym, ap, subst, ◌∙◌, arith, append_assoc, length-append, drop-cons}
-use Rattle.std.specs.Prelude.{IfSome, MatchOption, OnOk, is_some}
+use Rattle.std.specs.Prelude.{IfSome, MatchOption, OnOk}
 use Rattle.std.specs.List.{flat_map, AllByRecursion}
 use Rattle.std.proofs.lemmas.List.{append-nil, map_push, map-append, take_more, take-append-drop, take-append-le, flat_map_more, length-map, length-take, take_all}
 use Rattle.plant_book.specs.declared.call.Call.{Call}
@@ -32,13 +32,14 @@ use Rattle.script_text.specs.declared.fault.ScriptFault.{ScriptFault}
 use Rattle.script_text.specs.declared.fault.ScriptFault.TheVariants as readings
 use Rattle.script_text.specs.Progress.{IsBegun}
 use Rattle.script_text.specs.Progress as reading
-use Rattle.script_text.specs.Reader.{HasRead, LineRead, with_lines}
+use Rattle.script_text.specs.Reader.{AreLast, HasRead, LineRead, with_lines}
 use Rattle.script_text.proofs.Count.{read_within}
 use Rattle.std.proofs.Math.Seq.{get_or-append_seam, take-append_seam}
+use Rattle.script_text.proofs.Once.{not_both}
 use Rattle.script_text.proofs.Steps.{begun_on}
 use Rattle.script_text.proofs.Taken.{head_begun}
 use Rattle.script_replay.specs.Chain.{Chain, empty_life, first_chain, chain_after, chain_behind, IsDone, AreDone, history_of, IsSafeChain}
-use Rattle.script_replay.specs.Playing.{Stands, LineFits, Played, Does, FindsFull, Ends, IsFirstLife, script_with, IsReplayed, IsReplayedWhole, FaultExplained, NextLine, AreLast}
+use Rattle.script_replay.specs.Playing.{Stands, LineFits, Played, Does, FindsFull, Ends, IsFirstLife, script_with, IsReplayed, IsReplayedWhole, FaultExplained}
 use Rattle.script_replay.specs.declared.replay.ReplayFault.{ReplayFault}
 use Rattle.script_replay.specs.declared.replay.ReplayFault.TheVariants as faults
 use Rattle.script_replay.specs.Replay.{IsReplay, Explains, RefusesSite, fault_of}
@@ -415,15 +416,7 @@ not_past bytes first part old new text line fault one bad r = bad bytes (script_
 
 pub fault_explains : (fault : ScriptFault) (bytes : List ℕ) → reading.Explains fault bytes → Explains (fault_of fault) bytes
 fault_explains (readings.BadLine line kind) bytes why = why
-fault_explains readings.NoMemory bytes why = tt
-
-pub some_line : (found : Option Line) (old new : Lines) → is_some found ≡ true → NextLine old new (Ok found) → (line : Line) × LineRead old line new
-some_line (Some line) old new some one = (line, one)
-some_line None old new some ends = absurd cc
-
-pub no_line_left : (found : Option Line) (old new : Lines) → is_some found ≡ false → NextLine old new (Ok found) → (bytes : List ℕ) (script : ScriptRecord) → HasRead bytes script old → IsScript bytes script
-no_line_left (Some line) old new none one = absurd cc
-no_line_left None old new none ends = ends
+fault_explains readings.NoMemory bytes why = why
 
 -- from bytes to the text
 
@@ -449,7 +442,7 @@ begun bytes site start left part text has first added =
     }
 
 pub refuses : (bytes : List ℕ) (script : ScriptRecord) (fault : ReplayFault) → IsScript bytes script → RefusesSite script.site fault → Explains fault bytes
-refuses bytes script faults.NoMemory is refused = tt
+refuses bytes script faults.NoMemory is refused = λ line kind bad. not_both bytes script line kind is bad
 refuses bytes script (faults.BadLine line kind) is refused = absurd refused
 refuses bytes script (faults.BadSite fault) is refused = record { script = script; is_script = is; refused = refused }
 
@@ -480,6 +473,11 @@ is_replay bytes script part text (Some calls) is openable ends =
 pub whole_replay : (bytes : List ℕ) (script : ScriptRecord) (first part : PartRecord) (text : List ℕ) (full : Option ℕ) → IsFirstLife script first → IsReplayedWhole bytes first part text full → IsReplay bytes full text
 whole_replay bytes script first part text full begins r =
     is_replay bytes (script_with first r.lines) part text full r.is_script (subst IsOpenable (ap (λ (b : PartRecord). b.site) (sym begins.0)) begins.1) r.ends
+
+pub none_bad : (bytes : List ℕ) (first part : PartRecord) (old new : Lines) (text : List ℕ) (line : Line) → LineRead old line new → AreLast new → IsReplayed bytes first old part text → Explains faults.NoMemory bytes
+none_bad bytes first part old new text line one last r number kind bad =
+    let rest = last bytes (script_with first (r.done ++ line ∷ [])) (one.goes_on bytes (script_with first r.done) r.read) in
+    not_both bytes _ number kind rest.1 bad
 
 pub refuses_rest : (bytes : List ℕ) (script : ScriptRecord) (left : Lines) (fault : ReplayFault) → HasRead bytes script left → AreLast left → RefusesSite script.site fault → Explains fault bytes
 refuses_rest bytes script left fault has last refused =

@@ -14,7 +14,7 @@ use Rattle.script_text.specs.declared.line.Line.{Line}
 use Rattle.script_text.specs.declared.line.Line.TheVariants as lines
 use Rattle.script_text.specs.declared.lines.Lines.{Lines}
 use Rattle.script_text.specs.Script.{ScriptRecord, IsScript}
-use Rattle.script_text.specs.Reader.{HasRead, LineRead, with_lines}
+use Rattle.script_text.specs.Reader.{HasRead, LineRead}
 use Rattle.script_text.specs.Text.{Deed, deed_line, deed_text, lives_text}
 use Rattle.script_replay.specs.Chain.{Chain, first_chain, chain_after, chain_behind, IsDone, AreDone, history_of}
 use Rattle.script_replay.specs.declared.replay.ReplayFault.{ReplayFault}
@@ -98,11 +98,6 @@ abbrev pub NextLine : Lines → Lines → Result (Option Line) ReplayFault → T
 NextLine old new (Ok (Some line)) = LineRead old line new
 NextLine old new (Ok None) = (bytes : List ℕ) (script : ScriptRecord) → HasRead bytes script old → IsScript bytes script
 NextLine old new (Err fault) = FaultExplained old fault
-
--- the lines that are left are those of a script
-abbrev pub AreLast : Lines → Type 0
-AreLast lines = (bytes : List ℕ) (script : ScriptRecord) → HasRead bytes script lines
-    → (more : List Line) × IsScript bytes (with_lines script more)
 
 -- the whole script was read, and replayed as far as a book was full
 pub record IsReplayedWhole (bytes : List ℕ) (first part : PartRecord) (text : List ℕ) (full : Option ℕ) : Type 0 where

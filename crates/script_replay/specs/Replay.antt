@@ -9,7 +9,7 @@ use Rattle.script_text.specs.declared.line.Line.{Line}
 use Rattle.script_text.specs.declared.line.Line.TheVariants as lines
 use Rattle.script_text.specs.declared.fault.ScriptFault.{ScriptFault}
 use Rattle.script_text.specs.declared.fault.ScriptFault.TheVariants as readings
-use Rattle.script_text.specs.Script.{ScriptRecord, IsScript, IsFirstBadLine}
+use Rattle.script_text.specs.Script.{ScriptRecord, IsScript, IsFirstBadLine, HasNoBadLine}
 use Rattle.script_text.specs.Text.{Deed, deed_line, lives_text}
 use Rattle.script_replay.specs.declared.replay.ReplayFault.{ReplayFault}
 use Rattle.script_replay.specs.declared.replay.ReplayFault.TheVariants as faults
@@ -48,9 +48,9 @@ RefusesSite site faults.NoMemory = open_fault site ≡ None
 RefusesSite site (faults.BadLine line kind) = ⊥
 RefusesSite site (faults.BadSite fault) = open_fault site ≡ Some fault
 
--- why a script isn't replayed
+-- why a script isn't replayed: for want of memory only where it has no bad line
 abbrev pub Explains : ReplayFault → List ℕ → Type 0
-Explains faults.NoMemory bytes = Unit {0}
+Explains faults.NoMemory bytes = HasNoBadLine bytes
 Explains (faults.BadLine line kind) bytes = IsFirstBadLine bytes line kind
 Explains (faults.BadSite fault) bytes = IsRefused bytes fault
 

@@ -1,8 +1,8 @@
 ghost use Rattle.std.specs.Prelude.{◌≡◌, ◌≤◌, length, MatchResult};
 ghost use Rattle.script_text.specs.declared.script.TheConstants.{SCRIPT_BYTES_MAX};
-ghost use Rattle.script_text.specs.Reader.{CanGoOn, HasRead, script_begun};
+ghost use Rattle.script_text.specs.Reader.{AreLast, CanGoOn, HasRead, script_begun};
 ghost use Rattle.script_replay.specs.Replay.{Explains, fault_of};
-ghost use Rattle.script_replay.specs.Playing.{NextLine, AreLast, FaultExplained};
+ghost use Rattle.script_replay.specs.Playing.{NextLine, FaultExplained};
 
 use crate::replay::ReplayFault;
 use script_text::{Begun, Line, Lines, ScriptFault, read_head};
@@ -48,6 +48,8 @@ pub fn judge_rest(lines: &mut Lines<'_>) -> Result<(), ReplayFault>
     requires { CanGoOn lines.old }
     ensures { MatchResult result (λ _. AreLast lines.old) (λ fault. FaultExplained lines.old fault) }
 {
-    while next(lines)?.is_some() {}
-    Ok(())
+    match script_text::judge_rest(lines) {
+        Ok(()) => Ok(()),
+        Err(fault) => Err(replay_fault(fault)),
+    }
 }

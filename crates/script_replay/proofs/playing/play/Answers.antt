@@ -1,6 +1,6 @@
 use Rattle.std.proofs.lemmas.Result.{err_from_is_err_and}
 use Rattle.script_replay.specs.Playing.{bytes_of}
-use Rattle.script_replay.proofs.Plays.{next_fits, line_done, found_full, not_further, not_past}
+use Rattle.script_replay.proofs.Plays.{next_fits, line_done, found_full, not_further, not_past, none_bad}
 use Rattle.script_replay.proofs.playing.play.Goals as goal
 
 pub returns-in_err-line : goal.returns-in_err-line
@@ -37,3 +37,8 @@ returns-in_err-judge_rest-in-Err c =
     let one = rw c.in-Some.is at c.in_ok-line.ensures in
     let p = err_from_is_err_and c.from_residual-in_err-judge_rest-in-Err.result c.from_residual-in_err-judge_rest-in-Err.ensures.1 in
     rw (p.1, p.2) (not_past (bytes_of c.args.lines.now) c.args.plant.now c.loop-line.plant c.loop-line.lines c.next.new.lines c.loop-line.text.items c.in-Some.line _ one c.in_err-judge_rest-in-Err.ensures c.loop-line.invariant)
+
+pub returns-in-Err : goal.returns-in-Err
+returns-in-Err c =
+    let one = rw c.in-Some.is at c.in_ok-line.ensures in
+    none_bad (bytes_of c.args.lines.now) c.args.plant.now c.loop-line.plant c.loop-line.lines c.next.new.lines c.loop-line.text.items c.in-Some.line one c.in_ok-judge_rest-in-Err.ensures c.loop-line.invariant

@@ -1,27 +1,5 @@
-use Rattle.std.proofs.Common.{[], ◌∷◌, ◌++◌, rules}
-use Rattle.std.proofs.lemmas.Result.{err_from_is_err_and}
-use Rattle.script_text.specs.Reader.{with_lines}
-use Rattle.script_text.proofs.Reader.{none_more, one_behind}
-use Rattle.script_replay.proofs.Plays.{some_line, no_line_left}
+use Rattle.script_replay.proofs.Plays.{fault_explains}
 use Rattle.script_replay.proofs.reading.judge_rest.Goals as goal
 
-pub loop-init : goal.loop-init
-loop-init c = record { can_go_on = c.requires; read = λ bytes script has. ([], none_more bytes script c.args.lines.now has) }
-
-pub returns-in_err-next : goal.returns-in_err-next
-returns-in_err-next c =
-    let p = err_from_is_err_and c.from_residual.result c.from_residual.ensures.1 in
-    rw (p.1, p.2) (λ bytes script has. let m = c.loop.invariant.read bytes script has in c.in_err-next.ensures bytes (with_lines script m.0) m.1)
-
-pub loop-preserved : goal.loop-preserved
-loop-preserved c =
-    let one = some_line c.in_ok-next.field-0 c.loop.lines c.next.new.lines (search rules) c.in_ok-next.ensures in
-    record {
-      can_go_on = one.1.can_go_on;
-      read = λ bytes script has. let m = c.loop.invariant.read bytes script has in (m.0 ++ one.0 ∷ [], one_behind bytes script m.0 one.0 c.loop.lines c.next.new.lines one.1 m.1);
-    }
-
-pub returns : goal.returns
-returns c = λ bytes script has.
-    let m = c.loop.invariant.read bytes script has in
-    (m.0, no_line_left c.in_ok-next.field-0 c.loop.lines c.next.new.lines (search rules) c.in_ok-next.ensures bytes (with_lines script m.0) m.1)
+pub returns-in-Err : goal.returns-in-Err
+returns-in-Err c = λ bytes script has. rw c.replay_fault.ensures (fault_explains c.in-Err.fault bytes (c.in-Err.ensures bytes script has))
