@@ -8,7 +8,7 @@ use std::alloc::Global;
 use std::process::Abort;
 use std::test::Fail;
 
-/// The keys of a site, and what `check` tells of it with twelve inverters of 50 kW.
+/// The keys of a site, and what `check` tells of it with 64 inverters of 50 kW.
 const SITE: &str = "cap = 400000000
 send = 1000
 delay = 4000
@@ -23,8 +23,8 @@ policy = \"fair\"
 ";
 
 const SUMMARY: &str = "cap 400000000
-inverters 12
-floors 60000000
+inverters 64
+floors 320000000
 tmin 58300
 tmax 61700
 reach 66700
@@ -52,10 +52,10 @@ fn read(rt: &impl Abort, alloc: Global, bytes: &[u8]) -> Result<SiteFile, SiteEr
     site_of(alloc, bytes)
 }
 
-/// The site with twelve inverters at ports one after the other.
-fn twelve(alloc: Global) -> Result<String, Fail> {
+/// The site with 64 inverters at ports one after the other.
+fn all_64(alloc: Global) -> Result<String, Fail> {
     let mut text = String::from_str(alloc, SITE)?;
-    for number in 0..12u16 {
+    for number in 0..64u16 {
         let port = format!(in alloc; "port = {}", 5020 + number)?;
         let inverter = INVERTER.replacen(alloc, "port = 5020", port.as_str(), 1)?;
         text.push_str(inverter.as_str())?;
@@ -64,16 +64,16 @@ fn twelve(alloc: Global) -> Result<String, Fail> {
 }
 
 #[test]
-fn the_summary_of_twelve_inverters(rt: HostRuntime) -> Result<(), Fail> {
+fn the_summary_of_64_inverters(rt: HostRuntime) -> Result<(), Fail> {
     let alloc = rt.alloc();
     let mut expected = format!(in alloc; "# {SUMMARY}")?;
-    for number in 0..12u16 {
+    for number in 0..64u16 {
         write!(
             &mut expected,
             "inverter {number} full 1000 rated 50000000 floor 5000000\n"
         )?;
     }
-    let Ok(file) = read(&rt, alloc, twelve(alloc)?.as_bytes()) else {
+    let Ok(file) = read(&rt, alloc, all_64(alloc)?.as_bytes()) else {
         return Err("no site file".into());
     };
     let mut out = Vec::from_slice(alloc, b"# ")?;
@@ -91,13 +91,13 @@ fn has_site(site: &Site) -> bool {
 
 /// Whether the last inverter is reached as the text says.
 fn has_port(port: &Port) -> bool {
-    port.host.as_str() == "localhost" && port.port == 5_031 && port.unit == 1 && port.base == 40_296
+    port.host.as_str() == "localhost" && port.port == 5_083 && port.unit == 1 && port.base == 40_296
 }
 
 #[test]
-fn the_file_of_twelve_inverters(rt: HostRuntime) -> Result<(), Fail> {
+fn the_file_of_64_inverters(rt: HostRuntime) -> Result<(), Fail> {
     let alloc = rt.alloc();
-    let Ok(file) = read(&rt, alloc, twelve(alloc)?.as_bytes()) else {
+    let Ok(file) = read(&rt, alloc, all_64(alloc)?.as_bytes()) else {
         return Err("no site file".into());
     };
     assert!(rt; has_site(&file.site));
