@@ -10,6 +10,18 @@ use Rattle.plant_run.proofs.plain.round.Given as given
 use Rattle.plant_run.proofs.plain.round.Goals as goal
 use Rattle.plant_run.proofs.plain.round.Goals.{then-one_turn, else-one_turn}
 
+pub loop-place-init : goal.loop-place-init
+loop-place-init g c = record {
+  whole = c.requires.whole;
+  life = refl;
+  seats = c.requires.seats;
+  differ = c.requires.differ;
+  work = seats.none g.N.Dialer.links g.N.Dialer.faults (g.K.Clock.may_give c.args.clock.now) (book_of c.args.desk.now) c.args.workers.now c.args.dialers.now
+      (inverters c.args.desk.now.book.site) c.requires.seats;
+  over = λ none place worker below is. absurd (omega (arith, below));
+  fewer = omega arith;
+}
+
 pub one_turn-requires-clause-seat : goal.one_turn-requires-clause-seat
 one_turn-requires-clause-seat g c =
     c.loop-place.invariant.seats c.loop-place.place (get_or c.loop-place.workers c.loop-place.place c.index-workers-place.result)
