@@ -6,7 +6,8 @@ top=$(cd "$(dirname "${BASH_SOURCE[0]}")/.." && pwd) || exit 1
 turns=${1:-5000}
 rounds=${2:-5}
 program=$top/crates/exporter/out/exporter
-port=15040
+. "$top/checks/ports"
+port=$(free_ports 1)
 room=$(mktemp -d) || exit 1
 server=
 trap '[ -n "$server" ] && kill "$server" 2> /dev/null; rm -rf "$room"' EXIT
