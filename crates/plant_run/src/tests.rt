@@ -129,6 +129,22 @@ fn pair(alloc: Global, dialers: [PlayDialer; 2], turns: u32) -> Result<Ran, Fail
     lived(alloc, plant, vec![in alloc; first, second]?, &mut dialers)
 }
 
+/// The life of three inverters over these dialers, in so many turns.
+fn three(alloc: Global, dialers: [PlayDialer; 3], turns: u32) -> Result<Ran, Fail> {
+    let (unit, rules) = (unit()?, rules()?);
+    let plant = plant(alloc, vec![in alloc; unit, unit, unit]?, rules)?;
+    let first = worker(alloc, unit, rules, 0, turns, 1_000);
+    let second = worker(alloc, unit, rules, 1, turns, 1_000);
+    let third = worker(alloc, unit, rules, 2, turns, 1_000);
+    let mut dialers = Vec::from_array(alloc, dialers)?;
+    lived(
+        alloc,
+        plant,
+        vec![in alloc; first, second, third]?,
+        &mut dialers,
+    )
+}
+
 /// A dialer of two links that take 1,000 bytes each, and answer nothing.
 fn silent_links(alloc: Global) -> Result<PlayDialer, AllocError> {
     let mut links = Vec::new(alloc);
@@ -352,16 +368,23 @@ fn without_a_link_nothing_is_entered(rt: HostRuntime) -> Result<(), Fail> {
 #[test]
 fn the_turns_go_round_in_order(rt: HostRuntime) -> Result<(), Fail> {
     let alloc = rt.alloc();
-    let ran = pair(alloc, [silent_links(alloc)?, silent_links(alloc)?], 2)?;
+    let dialers = [
+        silent_links(alloc)?,
+        silent_links(alloc)?,
+        silent_links(alloc)?,
+    ];
+    let ran = three(alloc, dialers, 2)?;
     let mut named = Vec::new(alloc);
     for entry in &ran.entries {
         named.push(entry.call.inverter())?;
     }
 
-    // Each turn enters a Link, an Ask and a Read.
-    let (first, second) = (Some(0), Some(1));
-    let round = [first, first, first, second, second, second];
-    assert_eq!(rt; named.len(), 12);
+    // Each turn enters a Link, an Ask and a Read; no inverter has its second turn before all had their first.
+    let (first, second, third) = (Some(0), Some(1), Some(2));
+    let round = [
+        first, first, first, second, second, second, third, third, third,
+    ];
+    assert_eq!(rt; named.len(), 18);
     assert!(rt; named.starts_with(&round) && named.ends_with(&round));
     Ok(())
 }
