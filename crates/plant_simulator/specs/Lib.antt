@@ -1,2 +1,11 @@
-pub mod Cuts
-pub mod Device
+pub mod Words
+pub mod Site
+pub mod World
+pub mod Inverter
+pub mod Call
+pub mod Step
+pub mod Ready
+pub mod Summary
+pub mod Peak
+pub mod Text
+pub mod Devices

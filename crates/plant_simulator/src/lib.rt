@@ -1,17 +1,18 @@
-//! A simulated plant: links in memory behind which a simulated inverter answers.
-//!
-//! A `DeviceDialer` is a dialer whose links reach a `Bank`. A `CutDialer` is a dialer over another that cuts one frame short. What
-//! each of their calls does stands in `specs/`.
+//! A simulated plant: inverters whose writes are lost, repeated, late and out of order, under the real ledger.
 #![tactic(auto)]
 
-mod cut_dialer;
-mod device_dialer;
-mod hearing;
-mod replies;
+mod inverter;
+mod laws;
+mod simulation;
+mod site;
+mod summary;
+mod text;
+mod words;
 
-pub use cut_dialer::{CutDialer, Handing};
-pub use device_dialer::DeviceDialer;
-pub use hearing::Standing;
+pub use inverter::{OldWrite, Request};
+pub use laws::{inverters_follow_the_device, numbers_are_those_of_the_site, peaks_are_greatest};
+pub use summary::{Summary, simulate};
+pub use text::summary_text;
 
 #[cfg(test)]
 mod tests;

@@ -1,9 +1,9 @@
 -- What `simulate` writes, how it ends, and which end comes.
 use Rattle.std.specs.Prelude.{◌≡◌, ℕ, ◌≤◌, ◌⊎◌, List}
-use Rattle.plant_simulation.specs.declared.summary.Summary.{Summary}
-use Rattle.plant_simulation.specs.Summary.{summary_of}
-use Rattle.plant_simulation.specs.Peak.{IsPeak}
-use Rattle.plant_simulation.specs.Text.{text_of}
+use Rattle.plant_simulator.specs.declared.summary.Summary.{Summary}
+use Rattle.plant_simulator.specs.Summary.{summary_of}
+use Rattle.plant_simulator.specs.Peak.{IsPeak}
+use Rattle.plant_simulator.specs.Text.{text_of}
 use Rattle.simulate_command.specs.declared.command.Simulation.{Simulation}
 use Rattle.command_io.specs.declared.ended.Ended.{Ended}
 use Rattle.command_io.specs.declared.ended.Ended.TheVariants as ends

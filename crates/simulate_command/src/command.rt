@@ -4,7 +4,7 @@ ghost use Rattle.simulate_command.specs.Simulate.{IsSimulated, IsSimulateDue, Is
 
 use command_io::Ended;
 use limiter_num::NoMemory;
-use plant_simulation::{peaks_are_greatest, summary_text};
+use plant_simulator::{peaks_are_greatest, summary_text};
 use std::alloc::Global;
 use stream_io::write_whole;
 use world_traits::Sink;
@@ -42,7 +42,7 @@ fn text_of(alloc: Global, simulation: Simulation) -> Result<Vec<u8>, NoMemory>
         inverters,
         steps,
     } = simulation;
-    let summary = plant_simulation::simulate(alloc, seed, inverters, steps)?;
+    let summary = plant_simulator::simulate(alloc, seed, inverters, steps)?;
     let mut text = Vec::new(alloc);
     summary_text(&mut text, seed, inverters, steps, &summary)?;
     Ok(text)

@@ -7,7 +7,7 @@ use exporter_commands::{Ended, LiveFault, live};
 use inverter_sim::Bank;
 use limiter_num::{Rating, Rules};
 use plant_book::Unit;
-use plant_simulator::DeviceDialer;
+use device_dialers::DeviceDialer;
 use std::alloc::{AllocError, Global};
 use std::process::Abort;
 use std::test::Fail;

@@ -5,7 +5,7 @@ use super::links::{device, devices, run_over};
 use super::replayed;
 use super::sites::{Inverter, PLANT, Plant, site_file};
 use exporter_commands::Ended;
-use plant_simulator::{CutDialer, DeviceDialer};
+use device_dialers::{CutDialer, DeviceDialer};
 use std::alloc::{AllocError, Global};
 use std::process::Abort;
 use std::test::Fail;

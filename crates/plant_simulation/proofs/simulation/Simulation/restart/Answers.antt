@@ -1,7 +1,0 @@
-use Rattle.std.proofs.Common.{sym, subst}
-use Rattle.plant_simulation.specs.Ready.{IsReady}
-use Rattle.plant_simulation.proofs.Ready.{ready_next}
-use Rattle.plant_simulation.proofs.simulation.Simulation.restart.Goals as goal
-
-pub link_all-requires-clause-ready : goal.link_all-requires-clause-ready
-link_all-requires-clause-ready c = subst IsReady (sym c.in_ok-end_life.ensures) (ready_next c.args.self.now c.requires.ready)

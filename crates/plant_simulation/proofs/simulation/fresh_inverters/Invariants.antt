@@ -1,6 +1,0 @@
-use Rattle.std.proofs.Common.{◌≡◌, replicate}
-use Rattle.plant_simulation.specs.World.{fresh}
-use Rattle.plant_simulation.proofs.simulation.fresh_inverters.Given as goal
-
-abbrev pub invariant-loop-made : goal.invariant-loop-made
-invariant-loop-made l = l.inverters.items ≡ replicate l._made fresh

@@ -1,8 +1,0 @@
-use Rattle.std.proofs.Common.{subst}
-use Rattle.plant_simulator.specs.Device.{DeviceDialerState, IsDelivered}
-use Rattle.plant_simulator.proofs.device_dialer.DeviceDialerDialer.send.Goals as goal
-
-pub returns-in-Ok-clause-ok : goal.returns-in-Ok-clause-ok
-returns-in-Ok-clause-ok g c =
-    let P : DeviceDialerState _ → Type 0 = λ state. IsDelivered (g.K.Clock.may_give state.clock) c.args.bytes.now state c.deliver.new.self in
-    subst P c.if-next_fails.ensures.works c.in-Ok.ensures.ok
