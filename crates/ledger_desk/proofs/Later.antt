@@ -9,9 +9,10 @@ use Rattle.plant_book.specs.Site.{SiteRecord}
 use Rattle.plant_book.specs.Book.{BookRecord}
 use Rattle.plant_book.specs.Part.{PartRecord, CarryRecord}
 use Rattle.plant_book.specs.Carry.{carry_of}
+use Rattle.plant_ledger.specs.declared.plant.Goal.{Goal}
 use Rattle.plant_ledger.specs.Plant.{with_one}
-use Rattle.ledger_desk.specs.Desk.{GoalsLast, RollsLast, LivesLast}
-use Rattle.ledger_desk.specs.Plain.{PlainRecord, joined, front, first_entries, IsGoalOf, MayTell, begins, ends, WasFull, carry_at, book_between, Ended, WasFullLife, life_of}
+use Rattle.ledger_desk.specs.Desk.{TestsLast}
+use Rattle.ledger_desk.specs.Plain.{PlainRecord, joined, front, first_entries, IsGoalOf, MayTell, begins, ends, WasFull, carry_at, book_between, Ended, WasFullLife, tests_of, life_of}
 
 pub get-append : {X : Type 0} (xs ys : List X) (n : ℕ) (x : X) → slice_get xs n ≡ Some x → slice_get (xs ++ ys) n ≡ Some x
 get-append xs ys n x is =
@@ -59,7 +60,7 @@ module _ (old new : PlainRecord) (later : IsLater old new) where
   pub life_same : life_of new ≡ life_of old
   life_same = rw (later.site, later.start, later.begun) refl
 
-  pub goals_last : GoalsLast (MayTell old) (MayTell new)
+  goals_last : (made place inverter : ℕ) (goal : Goal) → MayTell old made place inverter goal → MayTell new made place inverter goal
   goals_last made place inverter goal told = record {
     counted = rw later.begun told.counted;
     within = omega (arith, told.within, front_later);
@@ -69,7 +70,7 @@ module _ (old new : PlainRecord) (later : IsLater old new) where
   begins_later : (n begin : ℕ) → slice_get (begins old) n ≡ Some begin → slice_get (begins new) n ≡ Some begin
   begins_later n begin is = subst (λ (places : List ℕ). slice_get (0 ∷ places) n ≡ Some begin) (sym later.rolls) (get-append (begins old) later.places n begin is)
 
-  pub full_lasts : WasFull old → WasFull new
+  full_lasts : WasFull old → WasFull new
   full_lasts full =
       let end = later.ended full.number full.end full.ends in
       record {
@@ -94,7 +95,7 @@ module _ (old new : PlainRecord) (later : IsLater old new) where
       ap (take (end - begin)) cut ∙ take-append-le (end - begin) (drop begin (joined old)) later.more room in
       parts_same later.site later.start (carry_same nth begin le) same
 
-  pub rolls_last : RollsLast (Ended old) (Ended new)
+  rolls_last : (number : ℕ) (book : PartRecord) → Ended old number book → Ended new number book
   rolls_last number book ended = record {
     nth = ended.nth;
     begin = ended.begin;
@@ -107,8 +108,11 @@ module _ (old new : PlainRecord) (later : IsLater old new) where
     it = ended.it ∙ sym (between_same ended.nth ended.begin ended.end ended.order ended.within);
   }
 
-  pub lives_last : LivesLast (WasFullLife old) (WasFullLife new)
+  lives_last : (calls : ℕ) → WasFullLife old calls → WasFullLife new calls
   lives_last calls full = (omega (arith, full.0, front_later), subst (λ (s : SiteRecord). CALLS_MAX < calls + s.room) (sym later.site) full.1)
+
+  pub tests_last : TestsLast (tests_of old) (tests_of new)
+  tests_last = record { goals = goals_last; full = full_lasts; rolls = rolls_last; lives = lives_last }
 
 -- with one more entry
 pub joined-with : (desk : PlainRecord) (entry : Entry) → joined (record desk { book = with_one desk.book entry }) ≡ joined desk ++ entry ∷ []

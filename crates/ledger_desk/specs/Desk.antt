@@ -33,16 +33,21 @@ RollTest = (number : ℕ) → PartRecord → Type 0
 abbrev pub LifeTest : Type 1
 LifeTest = (calls : ℕ) → Type 0
 
+-- The tests of a desk: of the goals that it may have told; whether a book of the life was full; of its rolls; and of a
+-- full life.
+pub record DeskTests : Type 1 where
+  pub may_tell : GoalTest
+  pub was_full : Type 0
+  pub ended : RollTest
+  pub was_full_life : LifeTest
+
 -- what has passed a test passes it later too
-abbrev pub GoalsLast : GoalTest → GoalTest → Type 0
-GoalsLast old new = (made place inverter : ℕ) (goal : Goal) → old made place inverter goal
-    → new made place inverter goal
-
-abbrev pub RollsLast : RollTest → RollTest → Type 0
-RollsLast old new = (number : ℕ) (book : PartRecord) → old number book → new number book
-
-abbrev pub LivesLast : LifeTest → LifeTest → Type 0
-LivesLast old new = (calls : ℕ) → old calls → new calls
+pub record TestsLast (old new : DeskTests) : Type 0 where
+  pub goals : (made place inverter : ℕ) (goal : Goal) → old.may_tell made place inverter goal
+      → new.may_tell made place inverter goal
+  pub full : old.was_full → new.was_full
+  pub rolls : (number : ℕ) (book : PartRecord) → old.ended number book → new.ended number book
+  pub lives : (calls : ℕ) → old.was_full_life calls → new.was_full_life calls
 
 -- nothing was entered and nothing rolled; others may have moved the front
 pub record EntersNone (old new : DeskState) : Type 0 where

@@ -9,7 +9,7 @@ use Rattle.plant_book.specs.Reserved.{reserved}
 use Rattle.plant_book.specs.Part.{PartRecord, CarryRecord, book_before}
 use Rattle.plant_book.specs.Carry.{carry_of, IsBehind}
 use Rattle.plant_ledger.specs.declared.plant.Goal.{Goal}
-use Rattle.ledger_desk.specs.Desk.{DeskState}
+use Rattle.ledger_desk.specs.Desk.{DeskState, DeskTests}
 
 -- The last book of the plant's life, the entries of the books before it, how many entries the life had when the desk
 -- was made, and the places of its rolls: how many entries the life had at each.
@@ -97,6 +97,15 @@ pub record Ended (desk : PlainRecord) (number : ℕ) (book : PartRecord) : Type 
 -- the life had so many calls, and with the room they are more than it may have
 abbrev pub WasFullLife : PlainRecord → (calls : ℕ) → Type 0
 WasFullLife desk calls = (calls ≤ front desk) × (CALLS_MAX < calls + desk.book.site.room)
+
+-- the desk's tests
+abbrev pub tests_of : PlainRecord → DeskTests
+tests_of desk = record {
+  may_tell = MayTell desk;
+  was_full = WasFull desk;
+  ended = Ended desk;
+  was_full_life = WasFullLife desk;
+}
 
 -- which life it is a desk of, and where in it: its site, its start, and how many entries it had
 pub record LifeRecord : Type 0 where

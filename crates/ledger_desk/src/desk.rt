@@ -1,13 +1,11 @@
 ghost use Rattle.std.specs.Prelude.{◌≡◌, ℕ, ◌<◌, ◌≤◌, length, IfOk, IfErr, IfSome, OnErr};
 ghost use Rattle.plant_book.specs.Calls.{moment, named};
 ghost use Rattle.plant_book.specs.Answered.{IsInRange};
-ghost use Rattle.plant_book.specs.Part.{PartRecord};
-ghost use Rattle.plant_ledger.specs.declared.plant.Goal.{Goal as Told};
 ghost use Rattle.plant_ledger.specs.declared.rolling.RollFault.{RollFault as Refused};
 ghost use Rattle.plant_ledger.specs.Opening.{ticket_for};
 ghost use Rattle.plant_ledger.specs.Release.{back_of};
 ghost use Rattle.ledger_desk.specs.Calls.{IsBack};
-ghost use Rattle.ledger_desk.specs.Desk.{DeskState, EntersNone, Enters, AddsRoll, GoalsLast, RollsLast, LivesLast, RefusesRoll};
+ghost use Rattle.ledger_desk.specs.Desk.{DeskState, DeskTests, TestsLast, EntersNone, Enters, AddsRoll, RefusesRoll};
 
 use plant_book::{Book, Call, MOMENT_MAX, Reply};
 use plant_ledger::{BookFull, Goal, Outcome, RollFault, Ticket};
@@ -21,17 +19,9 @@ pub trait Desk {
     /// The entries that were made through the desk, its front, its inverters and its rolls.
     ghost state: { Self → DeskState };
 
-    /// Whether it may have told this goal of an inverter at this place, after so many of its entries.
-    ghost may_tell: { Self → (made place inverter : ℕ) → Told → Type 0 };
-
-    /// Whether a book of the life was full.
-    ghost was_full: { Self → Type 0 };
-
-    /// Whether its roll of this number, counted from 1, ended this book.
-    ghost ended: { Self → (number : ℕ) → PartRecord → Type 0 };
-
-    /// Whether the life had so many calls, and these and the room were more than it may have.
-    ghost was_full_life: { Self → (calls : ℕ) → Type 0 };
+    /// Which goals it may have told, whether a book of the life was full, which books its rolls ended, and whether the
+    /// life was full.
+    ghost tests: { Self → DeskTests };
 
     /// What of it no call changes: which desk of which life it is.
     ghost Kept: { Type 0 };
@@ -50,12 +40,9 @@ pub trait Desk {
         ensures entered { IfOk result (λ outcome. Enters call outcome.reply (state self.old) (state self.new)) }
         ensures ticket { IfOk result (λ outcome. outcome.ticket ≡ ticket_for outcome.reply) }
         ensures none { OnErr result (EntersNone (state self.old) (state self.new)) }
-        ensures full { OnErr result (was_full self.new) }
+        ensures full { OnErr result (tests self.new).was_full }
         ensures room { IfErr result (λ full. full.calls ≡ room_of (kept self.new)) }
-        ensures goals_last { GoalsLast (may_tell self.old) (may_tell self.new) }
-        ensures full_lasts { was_full self.old → was_full self.new }
-        ensures rolls_last { RollsLast (ended self.old) (ended self.new) }
-        ensures lives_last { LivesLast (was_full_life self.old) (was_full_life self.new) }
+        ensures last { TestsLast (tests self.old) (tests self.new) }
         ensures kept { kept self.new ≡ kept self.old }
         ensures few { (state self.new).inverters ≤ 64 };
 
@@ -65,12 +52,9 @@ pub trait Desk {
         requires of_desk { ticket.inverter < (state self.old).inverters }
         ensures entered { IfOk result (λ reply. Enters (back_of ticket at) reply (state self.old) (state self.new)) }
         ensures none { OnErr result (EntersNone (state self.old) (state self.new)) }
-        ensures full { OnErr result (was_full self.new) }
+        ensures full { OnErr result (tests self.new).was_full }
         ensures room { IfErr result (λ full. full.calls ≡ room_of (kept self.new)) }
-        ensures goals_last { GoalsLast (may_tell self.old) (may_tell self.new) }
-        ensures full_lasts { was_full self.old → was_full self.new }
-        ensures rolls_last { RollsLast (ended self.old) (ended self.new) }
-        ensures lives_last { LivesLast (was_full_life self.old) (was_full_life self.new) }
+        ensures last { TestsLast (tests self.old) (tests self.new) }
         ensures kept { kept self.new ≡ kept self.old }
         ensures few { (state self.new).inverters ≤ 64 };
 
@@ -78,11 +62,8 @@ pub trait Desk {
     fn goal(&mut self, inverter: u8) -> Goal
         requires { inverter < (state self.old).inverters }
         ensures none { EntersNone (state self.old) (state self.new) }
-        ensures told { may_tell self.new (length (state self.new).made) (state self.new).front inverter result }
-        ensures goals_last { GoalsLast (may_tell self.old) (may_tell self.new) }
-        ensures full_lasts { was_full self.old → was_full self.new }
-        ensures rolls_last { RollsLast (ended self.old) (ended self.new) }
-        ensures lives_last { LivesLast (was_full_life self.old) (was_full_life self.new) }
+        ensures told { (tests self.new).may_tell (length (state self.new).made) (state self.new).front inverter result }
+        ensures last { TestsLast (tests self.old) (tests self.new) }
         ensures kept { kept self.new ≡ kept self.old }
         ensures few { (state self.new).inverters ≤ 64 };
 
@@ -90,16 +71,13 @@ pub trait Desk {
     /// has no room for one more book is refused as full, with its calls, before memory is asked for.
     fn roll(&mut self, alloc: Global) -> Result<Book, RollFault>
         ensures rolled { IfOk result (λ book. AddsRoll (state self.old) (state self.new)) }
-        ensures ended { IfOk result (λ book. ended self.new (length (state self.new).rolls) book) }
+        ensures ended { IfOk result (λ book. (tests self.new).ended (length (state self.new).rolls) book) }
         ensures none { OnErr result (EntersNone (state self.old) (state self.new)) }
         ensures refused { IfErr result
             (λ fault. RefusesRoll (state self.new).front (room_of (kept self.new)) fault) }
         ensures full_life { (calls : ℕ) → IfErr result (λ fault. fault ≡ RollFault.LifeFull calls
-            → was_full_life self.new calls) }
-        ensures goals_last { GoalsLast (may_tell self.old) (may_tell self.new) }
-        ensures full_lasts { was_full self.old → was_full self.new }
-        ensures rolls_last { RollsLast (ended self.old) (ended self.new) }
-        ensures lives_last { LivesLast (was_full_life self.old) (was_full_life self.new) }
+            → (tests self.new).was_full_life calls) }
+        ensures last { TestsLast (tests self.old) (tests self.new) }
         ensures kept { kept self.new ≡ kept self.old }
         ensures few { (state self.new).inverters ≤ 64 };
 }

@@ -2,13 +2,12 @@ ghost use Rattle.std.specs.Prelude.{◌≡◌, ◌<◌, ◌≤◌, ◌+◌, ◌+
 ghost use Rattle.plant_book.specs.Calls.{moment, named};
 ghost use Rattle.plant_book.specs.Answered.{IsInRange};
 ghost use Rattle.plant_book.specs.Part.{PartRecord, calls_of};
-ghost use Rattle.plant_ledger.specs.declared.plant.Goal.{Goal as Told};
 ghost use Rattle.plant_ledger.specs.Opening.{ticket_for};
 ghost use Rattle.plant_ledger.specs.Plant.{IsFullLife};
 ghost use Rattle.plant_ledger.specs.Release.{back_of};
 ghost use Rattle.ledger_desk.specs.Calls.{IsBack};
-ghost use Rattle.ledger_desk.specs.Desk.{DeskState, EntersNone, Enters, AddsRoll, GoalsLast, RollsLast, LivesLast, RefusesRoll};
-ghost use Rattle.ledger_desk.specs.Plain.{state_of, MayTell, WasFull, Ended, WasFullLife, LifeRecord, life_of, IsKeptDesk};
+ghost use Rattle.ledger_desk.specs.Desk.{DeskState, DeskTests, TestsLast, EntersNone, Enters, AddsRoll, RefusesRoll};
+ghost use Rattle.ledger_desk.specs.Plain.{state_of, tests_of, LifeRecord, life_of, IsKeptDesk};
 
 use crate::desk::Desk;
 use plant_book::{Book, CALLS_MAX, Call, Entry, Reply};
@@ -72,13 +71,7 @@ impl PlainDesk {
 impl Desk for PlainDesk {
     ghost state = { λ d. state_of d };
 
-    ghost may_tell = { λ d made place inverter goal. MayTell d made place inverter goal };
-
-    ghost was_full = { λ d. WasFull d };
-
-    ghost ended = { λ d number book. Ended d number book };
-
-    ghost was_full_life = { λ d calls. WasFullLife d calls };
+    ghost tests = { λ d. tests_of d };
 
     ghost Kept = { LifeRecord };
 

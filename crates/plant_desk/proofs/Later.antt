@@ -9,14 +9,15 @@ use Rattle.plant_book.specs.Answered.{with_entries}
 use Rattle.plant_book.specs.Part.{PartRecord}
 use Rattle.plant_book.specs.Life.{Life, entries_of, joined_book}
 use Rattle.plant_ledger.specs.Plant.{with_one}
-use Rattle.ledger_desk.specs.Desk.{GoalsLast, RollsLast, LivesLast}
+use Rattle.plant_ledger.specs.declared.plant.Goal.{Goal}
+use Rattle.ledger_desk.specs.Desk.{TestsLast}
 use Rattle.ledger_desk.specs.Plain.{IsGoalOf}
 use Rattle.plant_desk.specs.declared.deed.Deed.{Deed}
 use Rattle.plant_desk.specs.declared.deed.Deed.TheVariants.{Entered, Rolled}
 use Rattle.plant_desk.specs.Deeds.{first_life, life_after, life_of, Placed, entries_by}
 use Rattle.plant_desk.specs.Deeds as lives
 use Rattle.plant_desk.specs.Passes.{PassRecord, seen_book, first_place, after, entries}
-use Rattle.plant_desk.specs.DeskOf.{front, first_entries, MayTell, books_of, WasFull, Ended, WasFullLife, identity}
+use Rattle.plant_desk.specs.DeskOf.{front, first_entries, MayTell, books_of, WasFull, Ended, WasFullLife, tests_of, identity}
 use Rattle.plant_desk.proofs.Lives.{life_after-append, entries_of-push, front-le}
 use Rattle.plant_desk.proofs.Passes.{calls_in, front-calls_in, entries_by-append}
 
@@ -104,7 +105,7 @@ module _ (old : PassRecord) (more : List Deed) where
   entries_later : entries new ≡ entries old ++ fresh
   entries_later = entries_by-append old.number (first_place old.desk) old.seen more
 
-  goals_after : GoalsLast (MayTell old) (MayTell new)
+  goals_after : (made place inverter : ℕ) (goal : Goal) → MayTell old made place inverter goal → MayTell new made place inverter goal
   goals_after made place inverter goal was =
       let Held : Placed → Type 0 = λ p. p.place < place in
       let Later : Placed → Type 0 = λ p. place ≤ p.place in
@@ -128,7 +129,7 @@ module _ (old : PassRecord) (more : List Deed) where
       (full-after room (life_of old.desk.book old.seen) more (was.book, was.there, was.full)) in
       record { book = found.0; there = found.1; full = found.2 }
 
-  rolls_after : RollsLast (Ended old) (Ended new)
+  rolls_after : (number : ℕ) (book : PartRecord) → Ended old number book → Ended new number book
   rolls_after number book was = record {
     before = was.before;
     behind = was.behind ++ more;
@@ -137,8 +138,11 @@ module _ (old : PassRecord) (more : List Deed) where
     it = was.it;
   }
 
-  lives_after : LivesLast (WasFullLife old) (WasFullLife new)
+  lives_after : (calls : ℕ) → WasFullLife old calls → WasFullLife new calls
   lives_after calls was = (omega (arith, was.0, front_later), was.1)
+
+  tests_after : TestsLast (tests_of old) (tests_of new)
+  tests_after = record { goals = goals_after; full = full_after; rolls = rolls_after; lives = lives_after }
 
 -- a pass that has seen more
 pub record IsLater (old new : PassRecord) : Type 0 where
@@ -149,17 +153,8 @@ module _ (old new : PassRecord) (later : IsLater old new) where
   pub front_lasts : front old ≤ front new
   front_lasts = subst (λ (p : PassRecord). front old ≤ front p) (sym later.seen) (front_later old later.more)
 
-  pub goals_last : GoalsLast (MayTell old) (MayTell new)
-  goals_last = subst (λ (p : PassRecord). GoalsLast (MayTell old) (MayTell p)) (sym later.seen) (goals_after old later.more)
-
-  pub full_lasts : WasFull old → WasFull new
-  full_lasts = subst (λ (p : PassRecord). WasFull old → WasFull p) (sym later.seen) (full_after old later.more)
-
-  pub rolls_last : RollsLast (Ended old) (Ended new)
-  rolls_last = subst (λ (p : PassRecord). RollsLast (Ended old) (Ended p)) (sym later.seen) (rolls_after old later.more)
-
-  pub lives_last : LivesLast (WasFullLife old) (WasFullLife new)
-  lives_last = subst (λ (p : PassRecord). LivesLast (WasFullLife old) (WasFullLife p)) (sym later.seen) (lives_after old later.more)
+  pub tests_last : TestsLast (tests_of old) (tests_of new)
+  tests_last = subst (λ (p : PassRecord). TestsLast (tests_of old) (tests_of p)) (sym later.seen) (tests_after old later.more)
 
   pub kept_lasts : identity new ≡ identity old
   kept_lasts = ap identity later.seen

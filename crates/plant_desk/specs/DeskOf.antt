@@ -7,7 +7,7 @@ use Rattle.plant_book.specs.Answered.{with_entries}
 use Rattle.plant_book.specs.Part.{PartRecord}
 use Rattle.plant_book.specs.Life.{Life}
 use Rattle.plant_ledger.specs.declared.plant.Goal.{Goal}
-use Rattle.ledger_desk.specs.Desk.{DeskState}
+use Rattle.ledger_desk.specs.Desk.{DeskState, DeskTests}
 use Rattle.ledger_desk.specs.Plain.{IsGoalOf}
 use Rattle.plant_desk.specs.declared.deed.Deed.{Deed}
 use Rattle.plant_desk.specs.declared.deed.Deed.TheVariants.{Rolled}
@@ -63,6 +63,15 @@ pub record Ended (pass : PassRecord) (number : ℕ) (book : PartRecord) : Type 0
 -- the life had so many calls, and with the room they are more than it may have
 abbrev pub WasFullLife : PassRecord → (calls : ℕ) → Type 0
 WasFullLife pass calls = (calls ≤ front pass) × (CALLS_MAX < calls + pass.desk.book.site.room)
+
+-- the desk's tests
+abbrev pub tests_of : PassRecord → DeskTests
+tests_of pass = record {
+  may_tell = MayTell pass;
+  was_full = WasFull pass;
+  ended = Ended pass;
+  was_full_life = WasFullLife pass;
+}
 
 -- what no call changes: of which desk it is, and which of its passes
 abbrev pub identity : PassRecord → DeskRecord × ℕ

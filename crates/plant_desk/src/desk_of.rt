@@ -1,6 +1,6 @@
 ghost use Rattle.std.specs.Prelude.{◌≡◌, ℕ};
 ghost use Rattle.plant_desk.specs.Passes.{DeskRecord};
-ghost use Rattle.plant_desk.specs.DeskOf.{state_of, MayTell, WasFull, Ended, WasFullLife, identity};
+ghost use Rattle.plant_desk.specs.DeskOf.{state_of, tests_of, identity};
 
 use crate::desk::PlantDesk;
 use crate::pass::Pass;
@@ -51,13 +51,7 @@ impl<'a, R: Wait> DeskOf<'a, R> {
 impl<'a, R: Wait> Desk for DeskOf<'a, R> {
     ghost state = { λ pass. state_of pass };
 
-    ghost may_tell = { λ pass made place inverter goal. MayTell pass made place inverter goal };
-
-    ghost was_full = { λ pass. WasFull pass };
-
-    ghost ended = { λ pass number book. Ended pass number book };
-
-    ghost was_full_life = { λ pass calls. WasFullLife pass calls };
+    ghost tests = { λ pass. tests_of pass };
 
     ghost Kept = { DeskRecord × ℕ };
 

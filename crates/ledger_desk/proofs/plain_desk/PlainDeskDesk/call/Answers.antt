@@ -4,10 +4,9 @@ use Rattle.std.specs.Prelude.{IfOk, IfErr, OnErr}
 use Rattle.plant_book.specs.Part.{PartRecord}
 use Rattle.plant_ledger.specs.declared.plant.BookFull.{BookFull}
 use Rattle.plant_ledger.specs.declared.plant.Outcome.{Outcome}
-use Rattle.ledger_desk.specs.Desk.{Enters}
-use Rattle.ledger_desk.specs.Plain.{PlainRecord, state_of, WasFull, life_of, Ended}
-use Rattle.ledger_desk.specs.Desk.{RollsLast}
-use Rattle.ledger_desk.proofs.Later.{IsLater, full_lasts, rolls_last, life_same}
+use Rattle.ledger_desk.specs.Desk.{Enters, TestsLast}
+use Rattle.ledger_desk.specs.Plain.{PlainRecord, state_of, tests_of, life_of}
+use Rattle.ledger_desk.proofs.Later.{IsLater, tests_last, life_same}
 use Rattle.ledger_desk.proofs.Calls.{with_book, desk_later, desk_full, desk_enters}
 use Rattle.ledger_desk.specs.contracts.plain_desk.PlainDesk as desk
 use Rattle.ledger_desk.proofs.plain_desk.PlainDeskDesk.call.Goals as goal
@@ -39,15 +38,11 @@ later c =
     let old : PlainRecord = desk.the_view c.self.inside in
     desk_later (λ (outcome : Outcome). outcome.reply) old c.args.call c.apply.new.self c.apply.result c.apply.ensures.entered (same old.book c.apply.new.self c.apply.result c.apply.ensures.full)
 
-pub returns-clause-full_lasts : goal.returns-clause-full_lasts
-returns-clause-full_lasts c =
+pub returns-clause-last : goal.returns-clause-last
+returns-clause-last c =
     let old : PlainRecord = desk.the_view c.self.inside in
-    subst (λ (was : PlainRecord). WasFull was → WasFull (with_book old c.apply.new.self)) c.self.view_is (full_lasts old (with_book old c.apply.new.self) (later c))
-
-pub returns-clause-rolls_last : goal.returns-clause-rolls_last
-returns-clause-rolls_last c =
-    let old : PlainRecord = desk.the_view c.self.inside in
-    subst (λ (was : PlainRecord). RollsLast (Ended was) (Ended (with_book old c.apply.new.self))) c.self.view_is (rolls_last old (with_book old c.apply.new.self) (later c))
+    let new = with_book old c.apply.new.self in
+    subst (λ (was : PlainRecord). TestsLast (tests_of was) (tests_of new)) c.self.view_is (tests_last old new (later c))
 
 pub returns-clause-kept : goal.returns-clause-kept
 returns-clause-kept c =

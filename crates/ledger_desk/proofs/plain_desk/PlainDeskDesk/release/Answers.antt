@@ -6,9 +6,9 @@ use Rattle.plant_book.specs.declared.call.Reply.{Reply}
 use Rattle.plant_book.specs.Part.{PartRecord}
 use Rattle.plant_ledger.specs.declared.plant.BookFull.{BookFull}
 use Rattle.plant_ledger.specs.Release.{back_of}
-use Rattle.ledger_desk.specs.Desk.{Enters, GoalsLast, RollsLast}
-use Rattle.ledger_desk.specs.Plain.{PlainRecord, state_of, WasFull, life_of, Ended, MayTell}
-use Rattle.ledger_desk.proofs.Later.{IsLater, goals_last, full_lasts, rolls_last, life_same}
+use Rattle.ledger_desk.specs.Desk.{Enters, TestsLast}
+use Rattle.ledger_desk.specs.Plain.{PlainRecord, state_of, WasFull, tests_of, life_of}
+use Rattle.ledger_desk.proofs.Later.{IsLater, tests_last, life_same}
 use Rattle.ledger_desk.proofs.Calls.{with_book, desk_later, desk_full, desk_enters}
 use Rattle.ledger_desk.specs.contracts.plain_desk.PlainDesk as desk
 use Rattle.ledger_desk.proofs.plain_desk.PlainDeskDesk.release.Goals as goal
@@ -75,16 +75,9 @@ returns-clause-full c =
     (desk_full (λ (reply : Reply). reply) (old c) (back_of c.args.ticket c.args.at) c.release.new.self c.self.invariant c.release.result
     (same (old c).book c.release.new.self c.args.ticket c.release.result c.release.ensures.full) (has_room (old c).book c.release.new.self c.args.ticket c.release.result c.release.ensures.full)))
 
-pub returns-clause-goals_last : goal.returns-clause-goals_last
-returns-clause-goals_last c =
-    subst (λ (was : PlainRecord). GoalsLast (MayTell was) (MayTell (new c))) c.self.view_is (goals_last (old c) (new c) (later c))
-
-pub returns-clause-full_lasts : goal.returns-clause-full_lasts
-returns-clause-full_lasts c = subst (λ (was : PlainRecord). WasFull was → WasFull (new c)) c.self.view_is (full_lasts (old c) (new c) (later c))
-
-pub returns-clause-rolls_last : goal.returns-clause-rolls_last
-returns-clause-rolls_last c =
-    subst (λ (was : PlainRecord). RollsLast (Ended was) (Ended (new c))) c.self.view_is (rolls_last (old c) (new c) (later c))
+pub returns-clause-last : goal.returns-clause-last
+returns-clause-last c =
+    subst (λ (was : PlainRecord). TestsLast (tests_of was) (tests_of (new c))) c.self.view_is (tests_last (old c) (new c) (later c))
 
 pub returns-clause-kept : goal.returns-clause-kept
 returns-clause-kept c =

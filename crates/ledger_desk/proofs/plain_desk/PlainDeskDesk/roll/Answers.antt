@@ -5,9 +5,9 @@ use Rattle.plant_book.specs.declared.book.Entry.{Entry}
 use Rattle.plant_book.specs.Part.{PartRecord}
 use Rattle.plant_book.specs.Carry.{IsBehind, EachBefore}
 use Rattle.plant_ledger.specs.Plant.{Rolls}
-use Rattle.ledger_desk.specs.Desk.{RollsLast}
-use Rattle.ledger_desk.specs.Plain.{PlainRecord, joined, front, WasFull, life_of, Ended, IsKeptDesk}
-use Rattle.ledger_desk.proofs.Later.{full_lasts, rolls_last, rolled_from, life_same}
+use Rattle.ledger_desk.specs.Desk.{TestsLast}
+use Rattle.ledger_desk.specs.Plain.{PlainRecord, joined, front, tests_of, life_of, Ended, IsKeptDesk}
+use Rattle.ledger_desk.proofs.Later.{tests_last, rolled_from, life_same}
 use Rattle.ledger_desk.proofs.Rolled.{carry, rolled_later, kept_next, ended_by}
 use Rattle.ledger_desk.specs.contracts.plain_desk.PlainDesk as desk
 use Rattle.ledger_desk.proofs.plain_desk.PlainDeskDesk.roll.Goals as goal
@@ -65,13 +65,10 @@ returns-clause-ended c =
     let of_book = subst (λ (book : PartRecord). Ended (rolled_from (old c) (carry (old c) c.self.invariant)) (length c.push_reserved.new.self.items) book) (sym (ended c)) of_rolls in
     subst (λ (desk : PlainRecord). Ended desk (length c.push_reserved.new.self.items) c.in_ok-ended.ended) (sym (is c)) of_book
 
-pub returns-clause-full_lasts : goal.returns-clause-full_lasts
-returns-clause-full_lasts c =
-    subst (λ (was : PlainRecord). WasFull was → WasFull (new c)) c.self.view_is (full_lasts (old c) (new c) (rolled_later (old c) c.self.invariant (new c) (is c)))
-
-pub returns-clause-rolls_last : goal.returns-clause-rolls_last
-returns-clause-rolls_last c =
-    subst (λ (was : PlainRecord). RollsLast (Ended was) (Ended (new c))) c.self.view_is (rolls_last (old c) (new c) (rolled_later (old c) c.self.invariant (new c) (is c)))
+pub returns-clause-last : goal.returns-clause-last
+returns-clause-last c =
+    subst (λ (was : PlainRecord). TestsLast (tests_of was) (tests_of (new c))) c.self.view_is
+    (tests_last (old c) (new c) (rolled_later (old c) c.self.invariant (new c) (is c)))
 
 pub returns-clause-kept : goal.returns-clause-kept
 returns-clause-kept c =

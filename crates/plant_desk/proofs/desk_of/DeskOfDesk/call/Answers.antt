@@ -2,7 +2,7 @@
 use Rattle.plant_ledger.specs.declared.plant.Outcome.{Outcome}
 use Rattle.std.proofs.Common.{subst}
 use Rattle.plant_desk.specs.Passes.{PassRecord}
-use Rattle.plant_desk.proofs.Later.{goals_last, full_lasts, rolls_last, lives_last, kept_lasts}
+use Rattle.plant_desk.proofs.Later.{tests_last, kept_lasts}
 use Rattle.plant_desk.proofs.Meant.{Applied, called}
 use Rattle.plant_desk.proofs.desk_of.DeskOfDesk.call.Goals as goal
 
@@ -19,10 +19,7 @@ returns g c =
       none = done.none;
       full = done.full;
       room = done.room;
-      goals_last = goals_last old new done.later;
-      full_lasts = full_lasts old new done.later;
-      rolls_last = rolls_last old new done.later;
-      lives_last = lives_last old new done.later;
+      last = tests_last old new done.later;
       kept = kept_lasts old new done.later;
       few = done.few;
     }

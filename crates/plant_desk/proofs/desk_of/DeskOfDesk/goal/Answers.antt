@@ -1,7 +1,7 @@
 -- What a goal leaves of the desk of a pass, and that it is one that the desk may tell.
 use Rattle.std.proofs.Common.{subst}
 use Rattle.plant_desk.specs.Passes.{PassRecord, Looks}
-use Rattle.plant_desk.proofs.Later.{goals_last, full_lasts, rolls_last, lives_last, kept_lasts}
+use Rattle.plant_desk.proofs.Later.{tests_last, kept_lasts}
 use Rattle.plant_desk.proofs.Meant.{looks_later, looks_none, looks_few, tells}
 use Rattle.plant_desk.proofs.desk_of.DeskOfDesk.goal.Goals as goal
 
@@ -14,10 +14,7 @@ returns g c =
     record {
       none = looks_none old new looks;
       told = tells new c.args.inverter c.goal.result (record { raw = c.goal.ensures.raw; reserved = c.goal.ensures.reserved; stop = c.goal.ensures.stop });
-      goals_last = goals_last old new later;
-      full_lasts = full_lasts old new later;
-      rolls_last = rolls_last old new later;
-      lives_last = lives_last old new later;
+      last = tests_last old new later;
       kept = kept_lasts old new later;
       few = looks_few old new looks;
     }

@@ -1,7 +1,7 @@
 -- What a roll leaves of the desk of a pass.
 use Rattle.std.proofs.Common.{subst}
 use Rattle.plant_desk.specs.Passes.{PassRecord}
-use Rattle.plant_desk.proofs.Later.{goals_last, full_lasts, rolls_last, lives_last, kept_lasts}
+use Rattle.plant_desk.proofs.Later.{tests_last, kept_lasts}
 use Rattle.plant_desk.proofs.Meant.{Rolls, rolled}
 use Rattle.plant_desk.proofs.desk_of.DeskOfDesk.roll.Goals as goal
 
@@ -17,10 +17,7 @@ returns g c =
       none = done.none;
       refused = done.refused;
       full_life = done.full_life;
-      goals_last = goals_last old new done.later;
-      full_lasts = full_lasts old new done.later;
-      rolls_last = rolls_last old new done.later;
-      lives_last = lives_last old new done.later;
+      last = tests_last old new done.later;
       kept = kept_lasts old new done.later;
       few = done.few;
     }
