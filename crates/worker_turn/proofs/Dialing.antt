@@ -65,15 +65,15 @@ ends_come job (Err none.RecvFailed) bytes rest old new comes =
 ends_come job (Err (none.BadFrame fault)) bytes rest old new comes = ends_same old new comes.1
 
 ends_one : (job : Job) (output : Output) (came : Input) (old new : World) → IsDone job output came old new → Ends (dialed_in job came) old.links new.links
-ends_one job output.Goal (input.Goal goal) old new done = ends_same old.links new.links (same_links _ new done.1)
+ends_one job output.Goal (input.Goal goal) old new done = ends_same old.links new.links (same_links _ new done)
 ends_one job output.Dial input.Dialed old new done =
     ends_by (with_link job.port.host job.port.port) _ old.links new.links (λ links. map-push (all_links links) (new_link job.port.host job.port.port)) (same_links _ new done)
 ends_one job output.Dial input.DialFailed old new done = ends_same old.links new.links (same_links _ new done.0)
 ends_one job output.Now (input.Time clock) old new done = ends_same old.links new.links (same_links _ new done.0)
-ends_one job (output.Call called) (input.Reply answer) old new done = ends_same old.links new.links (same_links _ new done.1)
-ends_one job (output.Call called) input.Full old new done = ends_same old.links new.links (same_links _ new done.1)
-ends_one job (output.Release write at) (input.Reply answer) old new done = ends_same old.links new.links (same_links _ new done.1)
-ends_one job (output.Release write at) input.Full old new done = ends_same old.links new.links (same_links _ new done.1)
+ends_one job (output.Call called) (input.Reply answer) old new done = ends_same old.links new.links (same_links _ new done.is)
+ends_one job (output.Call called) input.Full old new done = ends_same old.links new.links (same_links _ new done)
+ends_one job (output.Release write at) (input.Reply answer) old new done = ends_same old.links new.links (same_links _ new done.is)
+ends_one job (output.Release write at) input.Full old new done = ends_same old.links new.links (same_links _ new done)
 ends_one job (output.Send request clock) input.SentAll old new done =
     let bytes = frame_spelling (request_frame job request) in
     no_more (with_bytes bytes) old.links new.links (λ links. same_ends (link_with_bytes bytes) (λ _. refl) links.past links.current) (same_links _ new done)

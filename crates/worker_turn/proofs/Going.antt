@@ -6,12 +6,11 @@ use Rattle.plant_book.specs.declared.call.Call.{Call}
 use Rattle.plant_book.specs.declared.call.Call.TheVariants as call
 use Rattle.plant_book.specs.declared.call.Reply.{Reply}
 use Rattle.plant_book.specs.declared.call.Reply.TheVariants as reply
-use Rattle.plant_ledger.specs.Release.{back_of}
 use Rattle.mbap_frames.specs.declared.frame.Frame.{Frame}
 use Rattle.frame_inbox.specs.declared.inbox.NoFrame.{NoFrame}
 use Rattle.frame_inbox.specs.declared.inbox.NoFrame.TheVariants as none
 use Rattle.plant_ledger.specs.declared.plant.Goal.{Goal}
-use Rattle.ledger_desk.specs.Desk.{DeskState, GoalTest, GoalsLast, EntersNone, Enters}
+use Rattle.ledger_desk.specs.Desk.{DeskState, DeskTests, TestsLast}
 use Rattle.inverter_worker.specs.declared.job.Job.{Job}
 use Rattle.inverter_worker.specs.declared.input.Input.{Input}
 use Rattle.inverter_worker.specs.declared.input.Input.TheVariants as input
@@ -25,14 +24,14 @@ use Rattle.inverter_worker.specs.Answers.{IsAnswerTo, IsReplyTo}
 use Rattle.inverter_worker.specs.Runs.{RunStep, log, sends_of}
 use Rattle.inverter_worker.specs.Turns.{IsWithinTurn, reading_in, readings}
 use Rattle.inverter_worker.proofs.Runs.{LeadsTo-push}
-use Rattle.worker_turn.specs.Doing.{World, IsDone, AreDone, arrival}
+use Rattle.worker_turn.specs.Doing.{World, IsEntered, IsDone, AreDone, arrival}
 use Rattle.worker_turn.specs.Desks.{IsTold, IsToldNow}
 use Rattle.worker_turn.specs.Acts.{is_last, Stands}
 use Rattle.worker_turn.specs.Turning.{pending, Follows, IsFresh}
 use Rattle.worker_turn.proofs.Rows.{IsNotGoal, IsNotNoMemory, Led, led, not_ready}
 
 -- what came is an answer to the output
-replied : (called : Call) (answer : Reply) (old new : DeskState) → Enters called answer old new → IsReplyTo called answer
+replied : (called : Call) (answer : Reply) (old new : World) → IsEntered called answer old new → IsReplyTo called answer
 replied (call.Link at inverter) (reply.Linked number) old new enters = tt
 replied (call.Link at inverter) _ old new enters = absurd enters.fits
 replied _ answer old new enters = tt
@@ -51,81 +50,42 @@ no_reading (Err none.Closed) = refl
 no_reading (Err none.RecvFailed) = refl
 no_reading (Err (none.BadFrame fault)) = refl
 
--- what an output does to the desk and to the readings, and that what came answers it
+-- what an output does to the readings, and that what came answers it
 pub record Moves (output : Output) (came : Input) (old new : World) : Type 0 where
   pub answers : IsAnswerTo output came
-  pub front : old.desk.front ≤ new.desk.front
-  pub inverters : new.desk.inverters ≡ old.desk.inverters
-  pub rolls : new.desk.rolls ≡ old.desk.rolls
   pub readings : new.readings ≡ old.readings ++ reading_in came
-
--- the desk stands still
-still : (output : Output) (came : Input) (old new : World) → IsAnswerTo output came → new.desk ≡ old.desk
-    → new.readings ≡ old.readings ++ reading_in came → Moves output came old new
-still output came old new answers is read =
-    let P : DeskState → Type 0 = λ desk. desk.front ≤ new.desk.front in
-    record {
-      answers = answers;
-      front = subst P is (omega arith);
-      inverters = ap (λ (d : DeskState). d.inverters) is;
-      rolls = ap (λ (d : DeskState). d.rolls) is;
-      readings = read;
-    }
 
 unread : (came : Input) (old new : World) → reading_in came ≡ [] → new.readings ≡ old.readings
     → new.readings ≡ old.readings ++ reading_in came
 unread came old new none is = is ∙ sym (append-nil old.readings) ∙ ap (λ (t : List ℕ). old.readings ++ t) (sym none)
 
-quiet : (output : Output) (came : Input) (old new : World) → IsAnswerTo output came → reading_in came ≡ []
-    → EntersNone old.desk new.desk → new.readings ≡ old.readings → Moves output came old new
-quiet output came old new answers none enters is = record {
-  answers = answers;
-  front = enters.front;
-  inverters = enters.inverters;
-  rolls = enters.rolls;
-  readings = unread came old new none is;
-}
-
-entered : (called : Call) (answer : Reply) (output : Output) (came : Input) (old new : World) → IsAnswerTo output came → reading_in came ≡ []
-    → Enters called answer old.desk new.desk → new.readings ≡ old.readings → Moves output came old new
-entered called answer output came old new answers none enters is = record {
-  answers = answers;
-  front = enters.front;
-  inverters = enters.inverters;
-  rolls = enters.rolls;
-  readings = unread came old new none is;
-}
-
-desk_of : (old new : World) → new ≡ old → new.desk ≡ old.desk
-desk_of old new is = ap (λ (w : World). w.desk) is
-
 readings_of : (old new : World) → new ≡ old → new.readings ≡ old.readings
 readings_of old new is = ap (λ (w : World). w.readings) is
 
+-- the clock wasn't read
+still : (output : Output) (came : Input) (old new was : World) → IsAnswerTo output came → reading_in came ≡ []
+    → was.readings ≡ old.readings → new ≡ was → Moves output came old new
+still output came old new was answers none same is =
+    record { answers = answers; readings = unread came old new none (readings_of was new is ∙ same) }
+
 pub moves : (job : Job) (output : Output) (came : Input) (old new : World) → IsDone job output came old new → Moves output came old new
-moves job output.Goal (input.Goal goal) old new done = quiet output.Goal (input.Goal goal) old new tt refl done.0 (readings_of _ new done.1)
-moves job output.Dial input.Dialed old new done = still output.Dial input.Dialed old new tt (desk_of _ new done) (unread input.Dialed old new refl (readings_of _ new done))
-moves job output.Dial input.DialFailed old new done =
-    still output.Dial input.DialFailed old new tt (desk_of _ new done.0) (unread input.DialFailed old new refl (readings_of _ new done.0))
-moves job output.Now (input.Time clock) old new done = still output.Now (input.Time clock) old new tt (desk_of _ new done.0) (readings_of _ new done.0)
-moves job (output.Call called) (input.Reply answer) old new done =
-    entered called answer (output.Call called) (input.Reply answer) old new (replied called answer old.desk new.desk done.0) refl done.0 (readings_of _ new done.1)
-moves job (output.Call called) input.Full old new done = quiet (output.Call called) input.Full old new tt refl done.0 (readings_of _ new done.1)
-moves job (output.Release write at) (input.Reply answer) old new done =
-    entered (back_of write at) answer (output.Release write at) (input.Reply answer) old new tt refl done.0 (readings_of _ new done.1)
-moves job (output.Release write at) input.Full old new done = quiet (output.Release write at) input.Full old new tt refl done.0 (readings_of _ new done.1)
-moves job (output.Send request clock) input.SentAll old new done =
-    still (output.Send request clock) input.SentAll old new tt (desk_of _ new done) (unread input.SentAll old new refl (readings_of _ new done))
-moves job (output.Send request clock) input.SendFailed old new done =
-    still (output.Send request clock) input.SendFailed old new tt (desk_of _ new done.0) (unread input.SendFailed old new refl (readings_of _ new done.0))
+moves job output.Goal (input.Goal goal) old new done = still _ _ old new _ tt refl refl done
+moves job output.Dial input.Dialed old new done = still _ _ old new _ tt refl refl done
+moves job output.Dial input.DialFailed old new done = still _ _ old new _ tt refl refl done.0
+moves job output.Now (input.Time clock) old new done = record { answers = tt; readings = readings_of _ new done.0 }
+moves job (output.Call called) (input.Reply answer) old new done = still _ _ old new _ (replied called answer old new done) refl refl done.is
+moves job (output.Call called) input.Full old new done = still _ _ old new _ tt refl refl done
+moves job (output.Release write at) (input.Reply answer) old new done = still _ _ old new _ tt refl refl done.is
+moves job (output.Release write at) input.Full old new done = still _ _ old new _ tt refl refl done
+moves job (output.Send request clock) input.SentAll old new done = still _ _ old new _ tt refl refl done
+moves job (output.Send request clock) input.SendFailed old new done = still _ _ old new _ tt refl refl done.0
 moves job output.Receive came old new done =
     let P : Input → Type 0 = λ came. IsAnswerTo output.Receive came in
-    still output.Receive came old new (subst P (sym done.1.is) (arrived done.1.result)) (desk_of _ new done.0)
-    (unread came old new (ap reading_in done.1.is ∙ no_reading done.1.result) (readings_of _ new done.0))
-moves job output.HangUp input.HungUp old new done = still output.HangUp input.HungUp old new tt (desk_of _ new done) (unread input.HungUp old new refl (readings_of _ new done))
-moves job (output.Rest ms) input.Rested old new done = still (output.Rest ms) input.Rested old new tt (desk_of old new done) (unread input.Rested old new refl (readings_of old new done))
-moves job output.Nothing input.Go old new done = still output.Nothing input.Go old new tt (desk_of old new done) (unread input.Go old new refl (readings_of old new done))
-moves job output.Nothing input.NoRoom old new done = still output.Nothing input.NoRoom old new tt (desk_of old new done) (unread input.NoRoom old new refl (readings_of old new done))
+    still output.Receive came old new _ (subst P (sym done.1.is) (arrived done.1.result)) (ap reading_in done.1.is ∙ no_reading done.1.result) refl done.0
+moves job output.HangUp input.HungUp old new done = still _ _ old new _ tt refl refl done
+moves job (output.Rest ms) input.Rested old new done = still _ _ old new _ tt refl refl done
+moves job output.Nothing input.Go old new done = still _ _ old new _ tt refl refl done
+moves job output.Nothing input.NoRoom old new done = still _ _ old new _ tt refl refl done
 moves job output came old new done = absurd done
 
 pub answers : (job : Job) (output : Output) (came : Input) (old new : World) → IsDone job output came old new → IsAnswerTo output came
@@ -159,13 +119,12 @@ fresh_none output.Goal old new later = absurd later
 fresh_none _ old new later = tt
 
 -- what was told before is told still
-told_still : (may_tell may_tell_now : GoalTest) (was_full was_full_now : Type 0) (inverter : ℕ) (old mid new : DeskState) (came : Input)
-    → GoalsLast may_tell may_tell_now → (was_full → was_full_now) → mid.front ≤ new.front
-    → IsTold may_tell was_full inverter old mid came → IsTold may_tell_now was_full_now inverter old new came
-told_still may_tell may_tell_now was_full was_full_now inverter old mid new (input.Goal goal) goals full front told =
-    (told.0, told.1, omega (arith, told.2, front), goals (length old.made) told.0 inverter goal told.3)
-told_still may_tell may_tell_now was_full was_full_now inverter old mid new input.Full goals full front told = full told
-told_still may_tell may_tell_now was_full was_full_now inverter old mid new _ goals full front told = tt
+told_still : (tests tests_now : DeskTests) (inverter made begun mid now : ℕ) (came : Input) → TestsLast tests tests_now → mid ≤ now
+    → IsTold tests inverter made begun mid came → IsTold tests_now inverter made begun now came
+told_still tests tests_now inverter made begun mid now (input.Goal goal) last front told =
+    (told.0, told.1, omega (arith, told.2, front), last.goals made told.0 inverter goal told.3)
+told_still tests tests_now inverter made begun mid now input.Full last front told = last.full told
+told_still tests tests_now inverter made begun mid now _ last front told = tt
 
 pub not_arrived : (goal : Goal) (result : Result Frame NoFrame) → input.Goal goal ≡ arrival result → ⊥
 not_arrived goal (Ok frame) is = cc
@@ -175,29 +134,29 @@ not_arrived goal (Err none.RecvFailed) is = cc
 not_arrived goal (Err (none.BadFrame fault)) is = cc
 
 -- a goal that came just now is told at the front
-told_goal : (job : Job) (last : Output) (may_tell : GoalTest) (was_full : Type 0) (inverter : ℕ) (goal : Goal) (old mid new : World) → IsFresh last old mid
-    → IsDone job last (input.Goal goal) mid new → IsToldNow may_tell was_full inverter new.desk (input.Goal goal)
-    → IsTold may_tell was_full inverter old.desk new.desk (input.Goal goal)
-told_goal job output.Goal may_tell was_full inverter goal old mid new fresh done told =
-    let P : World → Type 0 = λ world. world.desk.front ≤ new.desk.front in
-    let Q : ℕ → Type 0 = λ n. may_tell n new.desk.front inverter goal in
-    let made : length new.desk.made ≡ length old.desk.made = ap length done.0.made ∙ ap (λ (w : World). length w.desk.made) fresh in
-    (new.desk.front, subst P fresh done.0.front, omega arith, subst Q made told)
-told_goal job output.Receive may_tell was_full inverter goal old mid new fresh done told = absurd (not_arrived goal done.1.result done.1.is)
-told_goal job _ may_tell was_full inverter goal old mid new fresh done told = absurd done
+told_goal : (job : Job) (last : Output) (tests : DeskTests) (inverter begun : ℕ) (desk : DeskState) (goal : Goal) (old mid new : World) → IsFresh last old mid
+    → IsDone job last (input.Goal goal) mid new → new.made ≡ desk.made → begun ≤ desk.front → IsToldNow tests inverter desk (input.Goal goal)
+    → IsTold tests inverter (length old.made) begun desk.front (input.Goal goal)
+told_goal job output.Goal tests inverter begun desk goal old mid new fresh done is front told =
+    let Q : ℕ → Type 0 = λ n. tests.may_tell n desk.front inverter goal in
+    let made : length desk.made ≡ length old.made = ap length (sym is ∙ ap (λ (w : World). w.made) done ∙ ap (λ (w : World). w.made) fresh) in
+    (desk.front, front, omega arith, subst Q made told)
+told_goal job output.Receive tests inverter begun desk goal old mid new fresh done is front told = absurd (not_arrived goal done.1.result done.1.is)
+told_goal job _ tests inverter begun desk goal old mid new fresh done is front told = absurd done
 
-told_now : (job : Job) (last : Output) (came : Input) (may_tell : GoalTest) (was_full : Type 0) (inverter : ℕ) (old mid new : World) → IsFresh last old mid
-    → IsDone job last came mid new → IsToldNow may_tell was_full inverter new.desk came → IsTold may_tell was_full inverter old.desk new.desk came
-told_now job last (input.Goal goal) may_tell was_full inverter old mid new fresh done told =
-    told_goal job last may_tell was_full inverter goal old mid new fresh done told
-told_now job last input.Full may_tell was_full inverter old mid new fresh done told = told
-told_now job last _ may_tell was_full inverter old mid new fresh done told = tt
+told_now : (job : Job) (last : Output) (came : Input) (tests : DeskTests) (inverter begun : ℕ) (desk : DeskState) (old mid new : World) → IsFresh last old mid
+    → IsDone job last came mid new → new.made ≡ desk.made → begun ≤ desk.front → IsToldNow tests inverter desk came
+    → IsTold tests inverter (length old.made) begun desk.front came
+told_now job last (input.Goal goal) tests inverter begun desk old mid new fresh done is front told =
+    told_goal job last tests inverter begun desk goal old mid new fresh done is front told
+told_now job last input.Full tests inverter begun desk old mid new fresh done is front told = told
+told_now job last _ tests inverter begun desk old mid new fresh done is front told = tt
 
 -- at first nothing is done
-pub at_first : (may_tell : GoalTest) (was_full : Type 0) (job : Job) (begun : State) (first : Output) (logged : List Sent) (old : World)
+pub at_first : (tests : DeskTests) (front : ℕ) (job : Job) (begun : State) (first : Output) (logged : List Sent) (old : World)
     → Stands job begun.step first → (from : State) (came : Input) → table job from came ≡ Some (begun, first)
-    → Follows may_tell was_full job begun first [] begun first logged logged old old
-at_first may_tell was_full job begun first logged old stands from came is = record {
+    → Follows tests front front job begun first [] begun first logged logged old old
+at_first tests front job begun first logged old stands from came is = record {
   within = tt;
   leads = refl;
   pending = refl;
@@ -209,20 +168,17 @@ at_first may_tell was_full job begun first logged old stands from came is = reco
   fresh = fresh_first first old;
   reached = (from, came, is);
   memory = λ _. refl;
-  front = omega arith;
-  inverters = refl;
-  rolls = refl;
 }
 
 -- one output more is done
-pub one_more : (may_tell may_tell_now : GoalTest) (was_full was_full_now : Type 0) (job : Job) (begun : State) (first : Output) (later : List RunStep)
+pub one_more : (tests tests_now : DeskTests) (front front_mid : ℕ) (desk : DeskState) (job : Job) (begun : State) (first : Output) (later : List RunStep)
     (state next : State) (last following : Output) (came : Input) (logged log_mid log_now : List Sent) (old mid new : World)
-    → Follows may_tell was_full job begun first later state last logged log_mid old mid
+    → Follows tests front front_mid job begun first later state last logged log_mid old mid
     → is_last last ≡ false → IsDone job last came mid new → table job state came ≡ Some (next, following)
-    → GoalsLast may_tell may_tell_now → (was_full → was_full_now) → IsToldNow may_tell_now was_full_now job.inverter new.desk came
+    → TestsLast tests tests_now → front ≤ front_mid → front_mid ≤ desk.front → new.made ≡ desk.made → IsToldNow tests_now job.inverter desk came
     → log_now ≡ log_mid ++ sends_of following
-    → Follows may_tell_now was_full_now job begun first (later ++ record { state = state; input = came; output = following } ∷ []) next following logged log_now old new
-one_more may_tell may_tell_now was_full was_full_now job begun first later state next last following came logged log_mid log_now old mid new follows going done is goals full told noted =
+    → Follows tests_now front desk.front job begun first (later ++ record { state = state; input = came; output = following } ∷ []) next following logged log_now old new
+one_more tests tests_now front front_mid desk job begun first later state next last following came logged log_mid log_now old mid new follows going done is lasts behind moved made told noted =
     let one : RunStep = record { state = state; input = came; output = following } in
     let does = moves job last came mid new done in
     let goes : Led job last came state.step next following = led job state next last following came mid new going follows.stands done is in
@@ -238,15 +194,12 @@ one_more may_tell may_tell_now was_full was_full_now job begun first later state
       readings = does.readings ∙ ap (λ (t : List ℕ). t ++ reading_in came) follows.readings ∙ append_assoc old.readings (readings later) (reading_in came)
           ∙ ap (λ (t : List ℕ). old.readings ++ (readings later ++ t)) (sym (append-nil (reading_in came)))
           ∙ ap (λ (t : List ℕ). old.readings ++ t) (sym (flat_map-append (λ (one : RunStep). reading_in one.input) later (one ∷ [])));
-      told = all_push (λ one. IsTold may_tell_now was_full_now job.inverter old.desk new.desk one.input) later one
-          (all_map (λ one. IsTold may_tell was_full job.inverter old.desk mid.desk one.input) (λ one. IsTold may_tell_now was_full_now job.inverter old.desk new.desk one.input) later
-          (λ one. told_still may_tell may_tell_now was_full was_full_now job.inverter old.desk mid.desk new.desk one.input goals full does.front) follows.told)
-          (told_now job last came may_tell_now was_full_now job.inverter old mid new follows.fresh done told);
+      told = all_push (λ one. IsTold tests_now job.inverter (length old.made) front desk.front one.input) later one
+          (all_map (λ one. IsTold tests job.inverter (length old.made) front front_mid one.input) (λ one. IsTold tests_now job.inverter (length old.made) front desk.front one.input) later
+          (λ one. told_still tests tests_now job.inverter (length old.made) front front_mid desk.front one.input lasts moved) follows.told)
+          (told_now job last came tests_now job.inverter front desk old mid new follows.fresh done made (omega (arith, behind, moved)) told);
       stands = goes.stands;
       fresh = fresh_none following old new goes.later;
       reached = (state, came, is);
       memory = λ short. let Q : Step → Type 0 = λ step. IsNotNoMemory step in absurd (subst Q short goes.memory);
-      front = omega (arith, follows.front, does.front);
-      inverters = does.inverters ∙ follows.inverters;
-      rolls = does.rolls ∙ follows.rolls;
     }

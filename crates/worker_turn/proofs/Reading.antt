@@ -121,15 +121,15 @@ read_wait result frames unread rest old new waits read =
 
 read_one : (job : Job) (output : Output) (came : Input) (old new : World) (frames : List Frame) → IsDone job output came old new → IsRead frames old.unread old.links
     → IsRead (frames_with frames came) new.unread new.links
-read_one job output.Goal (input.Goal goal) old new frames done read = stays frames old.unread new.unread old.links new.links (same_links _ new done.1) (same_unread _ new done.1) read
+read_one job output.Goal (input.Goal goal) old new frames done read = stays frames old.unread new.unread old.links new.links (same_links _ new done) (same_unread _ new done) read
 read_one job output.Dial input.Dialed old new frames done read = λ links link told up.
     ap received_bytes (sym (begun job.port.host job.port.port old.links new.links links link (same_links _ new done) told up)) ∙ sym (same_unread _ new done)
 read_one job output.Dial input.DialFailed old new frames done read = stays frames old.unread new.unread old.links new.links (same_links _ new done.0) (same_unread _ new done.0) read
 read_one job output.Now (input.Time clock) old new frames done read = stays frames old.unread new.unread old.links new.links (same_links _ new done.0) (same_unread _ new done.0) read
-read_one job (output.Call called) (input.Reply answer) old new frames done read = stays frames old.unread new.unread old.links new.links (same_links _ new done.1) (same_unread _ new done.1) read
-read_one job (output.Call called) input.Full old new frames done read = stays frames old.unread new.unread old.links new.links (same_links _ new done.1) (same_unread _ new done.1) read
-read_one job (output.Release write at) (input.Reply answer) old new frames done read = stays frames old.unread new.unread old.links new.links (same_links _ new done.1) (same_unread _ new done.1) read
-read_one job (output.Release write at) input.Full old new frames done read = stays frames old.unread new.unread old.links new.links (same_links _ new done.1) (same_unread _ new done.1) read
+read_one job (output.Call called) (input.Reply answer) old new frames done read = stays frames old.unread new.unread old.links new.links (same_links _ new done.is) (same_unread _ new done.is) read
+read_one job (output.Call called) input.Full old new frames done read = stays frames old.unread new.unread old.links new.links (same_links _ new done) (same_unread _ new done) read
+read_one job (output.Release write at) (input.Reply answer) old new frames done read = stays frames old.unread new.unread old.links new.links (same_links _ new done.is) (same_unread _ new done.is) read
+read_one job (output.Release write at) input.Full old new frames done read = stays frames old.unread new.unread old.links new.links (same_links _ new done) (same_unread _ new done) read
 read_one job (output.Send request clock) input.SentAll old new frames done read =
     let bytes = frame_spelling (request_frame job request) in
     through (with_bytes bytes) [] bytes frames frames old.unread new.unread old.links new.links (adds_bytes bytes) (same_links _ new done)
@@ -222,7 +222,7 @@ Sent job output came before new = (after : List ℕ) × Sends job output came be
 
 sent_one : (job : Job) (output : Output) (came : Input) (old new : World) (before : List ℕ) → IsDone job output came old new → IsSent before old.links
     → Sent job output came before new
-sent_one job output.Goal (input.Goal goal) old new before done were = (before, refl, sends_none before old.links new.links (same_links _ new done.1) were)
+sent_one job output.Goal (input.Goal goal) old new before done were = (before, refl, sends_none before old.links new.links (same_links _ new done) were)
 sent_one job output.Dial input.Dialed old new before done were = (
   [],
   refl,
@@ -230,10 +230,10 @@ sent_one job output.Dial input.Dialed old new before done were = (
 )
 sent_one job output.Dial input.DialFailed old new before done were = (before, refl, sends_none before old.links new.links (same_links _ new done.0) were)
 sent_one job output.Now (input.Time clock) old new before done were = (before, refl, sends_none before old.links new.links (same_links _ new done.0) were)
-sent_one job (output.Call called) (input.Reply answer) old new before done were = (before, refl, sends_none before old.links new.links (same_links _ new done.1) were)
-sent_one job (output.Call called) input.Full old new before done were = (before, refl, sends_none before old.links new.links (same_links _ new done.1) were)
-sent_one job (output.Release write at) (input.Reply answer) old new before done were = (before, refl, sends_none before old.links new.links (same_links _ new done.1) were)
-sent_one job (output.Release write at) input.Full old new before done were = (before, refl, sends_none before old.links new.links (same_links _ new done.1) were)
+sent_one job (output.Call called) (input.Reply answer) old new before done were = (before, refl, sends_none before old.links new.links (same_links _ new done.is) were)
+sent_one job (output.Call called) input.Full old new before done were = (before, refl, sends_none before old.links new.links (same_links _ new done) were)
+sent_one job (output.Release write at) (input.Reply answer) old new before done were = (before, refl, sends_none before old.links new.links (same_links _ new done.is) were)
+sent_one job (output.Release write at) input.Full old new before done were = (before, refl, sends_none before old.links new.links (same_links _ new done) were)
 sent_one job (output.Send request clock) input.SentAll old new before done were =
     let bytes = frame_spelling (request_frame job request) in
     (before ++ bytes, refl, sends_through (with_bytes bytes) [] bytes before (before ++ bytes) old.links new.links (adds_bytes bytes) (same_links _ new done) refl were)

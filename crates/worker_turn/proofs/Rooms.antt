@@ -1,6 +1,6 @@
 -- What a turn has left: steps, readings of the clock and requests.
-use Rattle.std.proofs.Common.{◌≡◌, ◌≢◌, ℕ, ◌+◌, ◌<◌, ◌≤◌, length, Some, None, refl, arith}
-use Rattle.ledger_desk.specs.Desk.{GoalTest, RollTest, LifeTest}
+use Rattle.std.proofs.Common.{◌≡◌, ◌≢◌, ℕ, ◌+◌, ◌<◌, ◌≤◌, length, Some, None, refl, ◌∙◌, arith}
+use Rattle.ledger_desk.specs.Desk.{DeskState, DeskTests, TestsLast}
 use Rattle.inverter_worker.specs.declared.job.Job.{Job}
 use Rattle.inverter_worker.specs.declared.input.Input.{Input}
 use Rattle.inverter_worker.specs.declared.output.Output.{Output}
@@ -12,7 +12,7 @@ use Rattle.inverter_worker.specs.Table.{table}
 use Rattle.inverter_worker.specs.Runs.{RunStep, sends_of}
 use Rattle.inverter_worker.specs.Turns.{reading_in}
 use Rattle.inverter_worker.proofs.Turns.{steps_left, clock_left, requests_left, Takes, taken, steps_same, clock_same, requests_same}
-use Rattle.worker_turn.specs.Desks.{TestsLast}
+use Rattle.worker_turn.specs.Desks.{RollsNone}
 use Rattle.worker_turn.specs.Acts.{Begins, Stands, held}
 
 -- what a row uses up within a turn
@@ -55,19 +55,29 @@ begins_room job (Over end) output len room begins has some = absurd (omega arith
 begins_room job _ _ len room begins has some = absurd begins
 
 -- what lasts twice lasts
-pub lasting : (a b c : GoalTest) (d e f : Type 0) (h i j : RollTest) (k l m : LifeTest) → TestsLast a b d e h i k l → TestsLast b c e f i j l m
-    → TestsLast a c d f h j k m
-lasting a b c d e f h i j k l m first last = record {
+pub lasting : (a b c : DeskTests) → TestsLast a b → TestsLast b c → TestsLast a c
+lasting a b c first last = record {
   goals = λ made place inverter goal told. last.goals made place inverter goal (first.goals made place inverter goal told);
   full = λ full. last.full (first.full full);
   rolls = λ number book ended. last.rolls number book (first.rolls number book ended);
   lives = λ calls full. last.lives calls (first.lives calls full);
 }
 
-pub same : (a : GoalTest) (d : Type 0) (h : RollTest) (k : LifeTest) → TestsLast a a d d h h k k
-same a d h k = record {
+pub same : (tests : DeskTests) → TestsLast tests tests
+same tests = record {
   goals = λ made place inverter goal told. told;
   full = λ full. full;
   rolls = λ number book ended. ended;
   lives = λ calls full. full;
 }
+
+-- and no book is rolled in between
+pub staying : (a b c : DeskState) → RollsNone a b → RollsNone b c → RollsNone a c
+staying a b c first last = record {
+  front = omega (arith, first.front, last.front);
+  inverters = last.inverters ∙ first.inverters;
+  rolls = last.rolls ∙ first.rolls;
+}
+
+pub still : (desk : DeskState) → RollsNone desk desk
+still desk = record { front = omega arith; inverters = refl; rolls = refl }

@@ -78,7 +78,7 @@ module _ (job : Job) (state : State) (old new : World) where
 
   at_asking : (at inverter raw : ℕ) → inverter ≡ job.inverter → (came : Input) → IsDone job (output.Call (call.Ask at inverter raw)) came old new
       → Leads job (output.Call (call.Ask at inverter raw)) came Asking (row job state Asking came)
-  at_asking at inverter raw own (input.Reply (reply.Granted write)) done = record { stands = done.0.fits.0 ∙ own; ticket = refl; later = tt; memory = tt }
+  at_asking at inverter raw own (input.Reply (reply.Granted write)) done = record { stands = done.fits.0 ∙ own; ticket = refl; later = tt; memory = tt }
   at_asking at inverter raw own (input.Reply reply.Spent) done = record { stands = tt; ticket = refl; later = tt; memory = tt }
   at_asking at inverter raw own (input.Reply _) done = record { stands = tt; ticket = refl; later = tt; memory = tt }
   at_asking at inverter raw own input.Full done = record { stands = tt; ticket = refl; later = tt; memory = tt }
@@ -122,7 +122,7 @@ module _ (job : Job) (state : State) (old new : World) where
   at_read_asking : (at inverter : ℕ) (came : Input) → IsDone job (output.Call (call.Read at inverter)) came old new
       → Leads job (output.Call (call.Read at inverter)) came ReadAsking (row job state ReadAsking came)
   at_read_asking at inverter (input.Reply (reply.ReadAs read)) done = record { stands = tt; ticket = refl; later = tt; memory = tt }
-  at_read_asking at inverter (input.Reply (reply.Granted write)) done = absurd done.0.fits
+  at_read_asking at inverter (input.Reply (reply.Granted write)) done = absurd done.fits
   at_read_asking at inverter (input.Reply _) done = record { stands = tt; ticket = refl; later = tt; memory = tt }
   at_read_asking at inverter input.Full done = record { stands = tt; ticket = refl; later = tt; memory = tt }
   at_read_asking at inverter _ done = absurd done
@@ -160,7 +160,7 @@ module _ (job : Job) (state : State) (old new : World) where
 
   at_saw_asking : (at inverter number raw : ℕ) (came : Input) → IsDone job (output.Call (call.Saw at inverter number raw)) came old new
       → Leads job (output.Call (call.Saw at inverter number raw)) came SawAsking (row job state SawAsking came)
-  at_saw_asking at inverter number raw (input.Reply (reply.Granted write)) done = absurd done.0.fits
+  at_saw_asking at inverter number raw (input.Reply (reply.Granted write)) done = absurd done.fits
   at_saw_asking at inverter number raw (input.Reply _) done = record { stands = tt; ticket = refl; later = tt; memory = tt }
   at_saw_asking at inverter number raw input.Full done = record { stands = tt; ticket = refl; later = tt; memory = tt }
   at_saw_asking at inverter number raw _ done = absurd done

@@ -1,6 +1,6 @@
 -- A whole turn, from its begin.
 use Rattle.std.proofs.Common.{◌≡◌, ℕ, ◌≤◌, List, [], ◌∷◌, ◌++◌, length, inl, inr, Some, refl, sym, ap, ◌∙◌, arith, append-nil}
-use Rattle.ledger_desk.specs.Desk.{GoalTest}
+use Rattle.ledger_desk.specs.Desk.{DeskTests}
 use Rattle.inverter_worker.specs.declared.job.Job.{Job}
 use Rattle.inverter_worker.specs.declared.input.Input.{Input}
 use Rattle.inverter_worker.specs.declared.output.Output.{Output}
@@ -31,11 +31,11 @@ nothing_sent job Aiming output.Goal begins = refl
 nothing_sent job (Over end) output.End begins = refl
 nothing_sent job _ _ begins = absurd begins
 
-pub whole : (may_tell : GoalTest) (was_full : Type 0) (before after : WorkerRecord) (begun : State) (put : Output) (came : Input) (old new : World)
+pub whole : (tests : DeskTests) (front front_now : ℕ) (before after : WorkerRecord) (begun : State) (put : Output) (came : Input) (old new : World)
     → IsBegin came → table before.job before.state came ≡ Some (begun, put) → Begins before.job begun.step put → old.readings ≡ []
-    → GoesOn may_tell was_full before.job begun put after.state before.log after.log old new
-    → IsTurn may_tell was_full before after old new
-whole may_tell was_full before after begun put came old new by is begins none goes =
+    → GoesOn tests front front_now before.job begun put after.state before.log after.log old new
+    → IsTurn tests front front_now before after old new
+whole tests front front_now before after begun put came old new by is begins none goes =
     let first : RunStep = record { state = before.state; input = came; output = put } in
     let follows = goes.follows in
     record {
@@ -52,9 +52,9 @@ whole may_tell was_full before after begun put came old new by is begins none go
     }
 
 -- it reads the clock at most 6 times
-pub few : (may_tell : GoalTest) (was_full : Type 0) (before after : WorkerRecord) (old new : World) → IsTurn may_tell was_full before after old new
+pub few : (tests : DeskTests) (front front_now : ℕ) (before after : WorkerRecord) (old new : World) → IsTurn tests front front_now before after old new
     → length new.readings ≤ 6
-few may_tell was_full before after old new turn =
+few tests front front_now before after old new turn =
     let brief : IsShort (turn.first ∷ turn.later) = short before.job before.state after.state turn.first turn.later turn.leads turn.within in
     omega (arith, brief.clock, ap length turn.readings)
 
@@ -66,9 +66,9 @@ unlogged : (logged log_now : List Sent) (later : List RunStep) → later ≡ [] 
 unlogged logged log_now later none is = is ∙ ap (λ (t : List RunStep). logged ++ log t) none ∙ append-nil logged
 
 -- where it found no memory it did nothing
-pub idle : (may_tell : GoalTest) (was_full : Type 0) (job : Job) (begun state : State) (put : Output) (logged log_now : List Sent) (old new : World)
-    → GoesOn may_tell was_full job begun put state logged log_now old new → state.step ≡ Over over.NoMemory → (log_now ≡ logged) × (new ≡ old)
-idle may_tell was_full job begun state put logged log_now old new goes is =
+pub idle : (tests : DeskTests) (front front_now : ℕ) (job : Job) (begun state : State) (put : Output) (logged log_now : List Sent) (old new : World)
+    → GoesOn tests front front_now job begun put state logged log_now old new → state.step ≡ Over over.NoMemory → (log_now ≡ logged) × (new ≡ old)
+idle tests front front_now job begun state put logged log_now old new goes is =
     let none = goes.follows.memory is in
     (unlogged logged log_now goes.later none goes.follows.log, unchanged job put goes.later old new none goes.follows.done)
 

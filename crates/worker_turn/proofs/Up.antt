@@ -74,14 +74,14 @@ keeps_come (Err none.RecvFailed) bytes rest old between new first comes = tt
 keeps_come (Err (none.BadFrame fault)) bytes rest old between new first comes = λ up. stays_same between new comes.1 (first up)
 
 keeps_one : (job : Job) (put : Output) (came : Input) (old new : World) → IsDone job put came old new → Keeps came old.links new.links
-keeps_one job output.Goal (input.Goal goal) old new done = stays_same old.links new.links (same_links _ new done.1)
+keeps_one job output.Goal (input.Goal goal) old new done = stays_same old.links new.links (same_links _ new done)
 keeps_one job output.Dial input.Dialed old new done = dialed_up job.port.host job.port.port old.links new.links (same_links _ new done)
 keeps_one job output.Dial input.DialFailed old new done = stays_same old.links new.links (same_links _ new done.0)
 keeps_one job output.Now (input.Time clock) old new done = stays_same old.links new.links (same_links _ new done.0)
-keeps_one job (output.Call called) (input.Reply answer) old new done = stays_same old.links new.links (same_links _ new done.1)
-keeps_one job (output.Call called) input.Full old new done = stays_same old.links new.links (same_links _ new done.1)
-keeps_one job (output.Release write at) (input.Reply answer) old new done = stays_same old.links new.links (same_links _ new done.1)
-keeps_one job (output.Release write at) input.Full old new done = stays_same old.links new.links (same_links _ new done.1)
+keeps_one job (output.Call called) (input.Reply answer) old new done = stays_same old.links new.links (same_links _ new done.is)
+keeps_one job (output.Call called) input.Full old new done = stays_same old.links new.links (same_links _ new done)
+keeps_one job (output.Release write at) (input.Reply answer) old new done = stays_same old.links new.links (same_links _ new done.is)
+keeps_one job (output.Release write at) input.Full old new done = stays_same old.links new.links (same_links _ new done)
 keeps_one job (output.Send request clock) input.SentAll old new done =
     let bytes = frame_spelling (request_frame job request) in
     stays_through (with_bytes bytes) old.links new.links (stays_bytes bytes) (same_links _ new done)

@@ -1,11 +1,16 @@
--- What it is to do an output, and which input comes of it: what the ledger, the links, the clock and the unread
+-- What it is to do an output, and which input comes of it: what the entries, the links, the clock and the unread
 -- bytes are before and after.
 use Rattle.std.specs.Prelude.{◌≡◌, ℕ, ◌≤◌, List, [], ◌∷◌, ◌++◌, Option, Result, Ok, Err, option_map}
 use Rattle.world_traits.specs.Causes.{Rose}
 use Rattle.world_traits.specs.Clocks.{moment_max}
 use Rattle.world_traits.specs.Links.{Links, IsCutShort, after_hang_up, with_bytes, with_link}
 use Rattle.plant_ledger.specs.Release.{back_of}
-use Rattle.ledger_desk.specs.Desk.{DeskState, EntersNone, Enters}
+use Rattle.plant_book.specs.declared.call.Call.{Call}
+use Rattle.plant_book.specs.declared.call.Reply.{Reply}
+use Rattle.plant_book.specs.declared.call.TheConstants.{MOMENT_MAX}
+use Rattle.plant_book.specs.declared.book.Entry.{Entry}
+use Rattle.plant_book.specs.Calls.{moment, at_moment}
+use Rattle.ledger_desk.specs.Calls.{IsReplyTo}
 use Rattle.mbap_frames.specs.declared.frame.Frame.{Frame}
 use Rattle.mbap_frames.specs.Frame.{frame_spelling}
 use Rattle.readback.specs.Frames.{write_frame, read_frame}
@@ -21,27 +26,31 @@ use Rattle.inverter_worker.specs.declared.output.Asked.{Asked}
 use Rattle.inverter_worker.specs.declared.output.Asked.TheVariants as asked
 use Rattle.inverter_worker.specs.Runs.{RunStep}
 
--- What a worker reaches: its desk, the record of its dialer's links where that is told, the dialer's count of faults,
+-- What a worker reaches: the entries that were made through its desk, the record of its dialer's links where that is told, the dialer's count of faults,
 -- what was read of the clock in this turn, and the bytes that came on the link and weren't handed out as frames.
 pub record World : Type 0 where
-  pub desk : DeskState
+  pub made : List Entry
   pub links : Option Links
   pub faults : ℕ
   pub readings : List ℕ
   pub unread : List ℕ
 
-abbrev pub world_of : DeskState → Option Links → (faults : ℕ) → (readings unread : List ℕ) → World
-world_of desk links faults readings unread =
-    record { desk = desk; links = links; faults = faults; readings = readings; unread = unread }
+abbrev pub world_of : (made : List Entry) → Option Links → (faults : ℕ) → (readings unread : List ℕ) → World
+world_of made links faults readings unread =
+    record { made = made; links = links; faults = faults; readings = readings; unread = unread }
 
 -- the frame of a request
 abbrev pub request_frame : Job → Asked → Frame
 request_frame job (asked.Write write) = write_frame write job.unit job.port job.rules
 request_frame job (asked.Read read) = read_frame read job.port
 
--- only the desk has changed
-abbrev pub DeskAlone : (DeskState → DeskState → Type 0) → World → World → Type 0
-DeskAlone Changes old new = Changes old.desk new.desk × (new ≡ record old { desk = new.desk })
+-- One entry more: the call, at its own moment or a later one, with the reply.
+pub record IsEntered (call : Call) (reply : Reply) (old new : World) : Type 0 where
+  pub at : ℕ
+  pub later : moment call ≤ at
+  pub high : at ≤ MOMENT_MAX
+  pub fits : IsReplyTo (at_moment at call) reply
+  pub is : new ≡ record old { made = old.made ++ record { call = at_moment at call; reply = reply } ∷ [] }
 
 -- what came of a wait for a frame, as an input
 abbrev pub arrival : Result Frame NoFrame → Input
@@ -61,18 +70,17 @@ pub record IsCome (came : Input) (old new : World) : Type 0 where
 
 -- An output was done, and this input came of it. Behind a turn the next one begins.
 abbrev pub IsDone : Job → Output → Input → World → World → Type 0
-IsDone job output.Goal (input.Goal goal) old new = DeskAlone EntersNone old new
+IsDone job output.Goal (input.Goal goal) old new = new ≡ old
 IsDone job output.Dial input.Dialed old new =
     new ≡ record old { links = option_map (with_link job.port.host job.port.port) old.links; unread = [] }
 IsDone job output.Dial input.DialFailed old new =
     (new ≡ record old { faults = new.faults }) × Rose old.faults new.faults
 IsDone job output.Now (input.Time clock) old new =
     (new ≡ record old { readings = old.readings ++ clock ∷ [] }) × (clock ≤ moment_max)
-IsDone job (output.Call call) (input.Reply reply) old new = DeskAlone (Enters call reply) old new
-IsDone job (output.Call call) input.Full old new = DeskAlone EntersNone old new
-IsDone job (output.Release write at) (input.Reply reply) old new =
-    DeskAlone (Enters (back_of write at) reply) old new
-IsDone job (output.Release write at) input.Full old new = DeskAlone EntersNone old new
+IsDone job (output.Call call) (input.Reply reply) old new = IsEntered call reply old new
+IsDone job (output.Call call) input.Full old new = new ≡ old
+IsDone job (output.Release write at) (input.Reply reply) old new = IsEntered (back_of write at) reply old new
+IsDone job (output.Release write at) input.Full old new = new ≡ old
 IsDone job (output.Send request clock) input.SentAll old new =
     new ≡ record old { links = option_map (with_bytes (frame_spelling (request_frame job request))) old.links }
 IsDone job (output.Send request clock) input.SendFailed old new =

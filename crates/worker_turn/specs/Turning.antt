@@ -1,7 +1,7 @@
 -- The way through a turn. Promises to a caller name `pending` alone of this.
-use Rattle.std.specs.Prelude.{◌≡◌, ◌≤◌, List, [], ◌∷◌, ◌++◌, Some}
+use Rattle.std.specs.Prelude.{◌≡◌, ℕ, List, length, [], ◌∷◌, ◌++◌, Some}
 use Rattle.std.specs.List.{AllByRecursion}
-use Rattle.ledger_desk.specs.Desk.{GoalTest}
+use Rattle.ledger_desk.specs.Desk.{DeskTests}
 use Rattle.inverter_worker.specs.declared.job.Job.{Job}
 use Rattle.inverter_worker.specs.declared.input.Input.{Input}
 use Rattle.inverter_worker.specs.declared.output.Output.{Output}
@@ -29,7 +29,7 @@ IsFresh output.Goal old new = new ≡ old
 IsFresh output old new = Unit {0}
 
 -- These steps followed on an output, from a state to a state, and what they put out was done, but for the last.
-pub record Follows (may_tell : GoalTest) (was_full : Type 0) (job : Job) (begun : State) (first : Output)
+pub record Follows (tests : DeskTests) (front front_now : ℕ) (job : Job) (begun : State) (first : Output)
     (later : List RunStep) (state : State) (last : Output) (logged log_now : List Sent) (old new : World)
     : Type 0 where
   pub within : AllByRecursion IsWithinTurn later
@@ -38,19 +38,16 @@ pub record Follows (may_tell : GoalTest) (was_full : Type 0) (job : Job) (begun 
   pub done : AreDone job first later old new
   pub log : log_now ≡ logged ++ log later
   pub readings : new.readings ≡ old.readings ++ readings later
-  pub told : AllByRecursion (λ one. IsTold may_tell was_full job.inverter old.desk new.desk one.input) later
+  pub told : AllByRecursion (λ one. IsTold tests job.inverter (length old.made) front front_now one.input) later
   pub stands : Stands job state.step last
   pub fresh : IsFresh last old new
   pub reached : (from : State) × (came : Input) × (table job from came ≡ Some (state, last))
   pub memory : state.step ≡ Over over.NoMemory → later ≡ []
-  pub front : old.desk.front ≤ new.desk.front
-  pub inverters : new.desk.inverters ≡ old.desk.inverters
-  pub rolls : new.desk.rolls ≡ old.desk.rolls
 
 -- The rest of a turn, from its first output on.
-pub record GoesOn (may_tell : GoalTest) (was_full : Type 0) (job : Job) (begun : State) (first : Output) (state : State)
+pub record GoesOn (tests : DeskTests) (front front_now : ℕ) (job : Job) (begun : State) (first : Output) (state : State)
     (logged log_now : List Sent) (old new : World) : Type 0 where
   pub later : List RunStep
   pub last : Output
-  pub follows : Follows may_tell was_full job begun first later state last logged log_now old new
+  pub follows : Follows tests front front_now job begun first later state last logged log_now old new
   pub over : IsBetweenTurns state.step

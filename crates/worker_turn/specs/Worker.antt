@@ -1,7 +1,7 @@
 -- A worker, and one turn of it.
-use Rattle.std.specs.Prelude.{◌≡◌, ◌⊎◌, ℕ, List, [], ◌∷◌, ◌++◌}
+use Rattle.std.specs.Prelude.{◌≡◌, ◌⊎◌, ℕ, List, [], ◌∷◌, ◌++◌, length}
 use Rattle.std.specs.List.{AllByRecursion}
-use Rattle.ledger_desk.specs.Desk.{GoalTest}
+use Rattle.ledger_desk.specs.Desk.{DeskTests}
 use Rattle.inverter_worker.specs.declared.job.Job.{Job}
 use Rattle.inverter_worker.specs.declared.input.Input.{Input}
 use Rattle.inverter_worker.specs.declared.input.Input.TheVariants as input
@@ -44,8 +44,9 @@ abbrev pub IsBegin : Input → Type 0
 IsBegin came = (came ≡ input.Go) ⊎ (came ≡ input.NoRoom)
 
 -- One turn: a run of the table from the worker's state to its next, whose outputs were done, and whose requests are
--- those that the log has gained. The readings of the clock are the times that came.
-pub record IsTurn (may_tell : GoalTest) (was_full : Type 0) (before after : WorkerRecord) (old new : World)
+-- those that the log has gained. The readings of the clock are the times that came, and the desk, whose front went from
+-- one to another, passes the goals and the full book that came.
+pub record IsTurn (tests : DeskTests) (front front_now : ℕ) (before after : WorkerRecord) (old new : World)
     : Type 0 where
   pub first : RunStep
   pub later : List RunStep
@@ -55,4 +56,4 @@ pub record IsTurn (may_tell : GoalTest) (was_full : Type 0) (before after : Work
   pub done : AreDone before.job first.output later old new
   pub log : after.log ≡ before.log ++ log (first ∷ later)
   pub readings : new.readings ≡ readings (first ∷ later)
-  pub told : AllByRecursion (λ one. IsTold may_tell was_full before.job.inverter old.desk new.desk one.input) later
+  pub told : AllByRecursion (λ one. IsTold tests before.job.inverter (length old.made) front front_now one.input) later

@@ -3,7 +3,8 @@ ghost use Rattle.std.specs.Prelude.{◌≡◌, ◌<◌, ◌≤◌, Some, length}
 ghost use Rattle.world_traits.specs.Clocks.{AreGiven, moment_max, readings_max};
 ghost use Rattle.plant_ledger.specs.Opening.{ticket_for};
 ghost use Rattle.worker_turn.specs.Doing.{World, IsDone};
-ghost use Rattle.worker_turn.specs.Desks.{IsPlain, IsToldNow, TestsLast};
+ghost use Rattle.ledger_desk.specs.Desk.{TestsLast};
+ghost use Rattle.worker_turn.specs.Desks.{IsPlain, IsToldNow, RollsNone};
 ghost use Rattle.worker_turn.specs.Acts.{IsOwnCall, ticket_after};
 
 use inverter_worker::{Input, Job, Output};
@@ -23,10 +24,10 @@ pub(crate) struct Came {
 pub(crate) fn ask_goal<D: Desk>(job: &Job, desk: &mut D) -> Input
     requires { job.now.inverter < (D.state desk.old).inverters }
     ensures done { (rest : World) → IsDone job.now Output.Goal result
-        (record rest { desk = D.state desk.old }) (record rest { desk = D.state desk.new }) }
-    ensures told { IsToldNow (D.may_tell desk.new) (D.was_full desk.new) job.now.inverter (D.state desk.new) result }
-    ensures last { TestsLast (D.may_tell desk.old) (D.may_tell desk.new) (D.was_full desk.old) (D.was_full desk.new)
-        (D.ended desk.old) (D.ended desk.new) (D.was_full_life desk.old) (D.was_full_life desk.new) }
+        (record rest { made = (D.state desk.old).made }) (record rest { made = (D.state desk.new).made }) }
+    ensures told { IsToldNow (D.tests desk.new) job.now.inverter (D.state desk.new) result }
+    ensures last { TestsLast (D.tests desk.old) (D.tests desk.new) }
+    ensures stays { RollsNone (D.state desk.old) (D.state desk.new) }
     ensures kept { D.kept desk.new ≡ D.kept desk.old }
 {
     Input::Goal(desk.goal(job.inverter))
@@ -42,11 +43,10 @@ pub(crate) fn make_call<D: Desk>(
     requires of_desk { job.now.inverter < (D.state desk.old).inverters }
     requires own { IsOwnCall job.now call }
     ensures done { (rest : World) → IsDone job.now (Output.Call call) result.input
-        (record rest { desk = D.state desk.old }) (record rest { desk = D.state desk.new }) }
-    ensures told { IsToldNow (D.may_tell desk.new) (D.was_full desk.new) job.now.inverter (D.state desk.new)
-        result.input }
-    ensures last { TestsLast (D.may_tell desk.old) (D.may_tell desk.new) (D.was_full desk.old) (D.was_full desk.new)
-        (D.ended desk.old) (D.ended desk.new) (D.was_full_life desk.old) (D.was_full_life desk.new) }
+        (record rest { made = (D.state desk.old).made }) (record rest { made = (D.state desk.new).made }) }
+    ensures told { IsToldNow (D.tests desk.new) job.now.inverter (D.state desk.new) result.input }
+    ensures last { TestsLast (D.tests desk.old) (D.tests desk.new) }
+    ensures stays { RollsNone (D.state desk.old) (D.state desk.new) }
     ensures kept { D.kept desk.new ≡ D.kept desk.old }
     ensures ticket { result.ticket ≡ ticket_after (Output.Call call) result.input ticket }
 {
@@ -68,10 +68,10 @@ pub(crate) fn give_back<D: Desk>(job: &Job, ticket: Ticket, at: u64, desk: &mut 
     requires own { ticket.inverter ≡ job.now.inverter }
     requires moment { at ≤ moment_max }
     ensures done { (rest : World) → IsDone job.now (Output.Release ticket at) result
-        (record rest { desk = D.state desk.old }) (record rest { desk = D.state desk.new }) }
-    ensures told { IsToldNow (D.may_tell desk.new) (D.was_full desk.new) job.now.inverter (D.state desk.new) result }
-    ensures last { TestsLast (D.may_tell desk.old) (D.may_tell desk.new) (D.was_full desk.old) (D.was_full desk.new)
-        (D.ended desk.old) (D.ended desk.new) (D.was_full_life desk.old) (D.was_full_life desk.new) }
+        (record rest { made = (D.state desk.old).made }) (record rest { made = (D.state desk.new).made }) }
+    ensures told { IsToldNow (D.tests desk.new) job.now.inverter (D.state desk.new) result }
+    ensures last { TestsLast (D.tests desk.old) (D.tests desk.new) }
+    ensures stays { RollsNone (D.state desk.old) (D.state desk.new) }
     ensures kept { D.kept desk.new ≡ D.kept desk.old }
 {
     match desk.release(ticket, at) {

@@ -28,7 +28,7 @@ ghost use Rattle.worker_turn.specs.Answered.{IsAnswered};
 /// The calls of a run with their replies, each at its own moment or a later one, are the entries that the desk gained.
 pub fn calls_are_entered()
     ensures { (job : Job) (first : Output) (later : List RunStep) (old new : World) → AreDone job first later old new
-        → (gained : List Entry) × (new.desk.made ≡ old.desk.made ++ gained)
+        → (gained : List Entry) × (new.made ≡ old.made ++ gained)
         × AreEntriesOf (calls_made first later) gained }
 {}
 

@@ -2,7 +2,8 @@
 ghost use Rattle.std.specs.Prelude.{◌≡◌, ◌<◌, ◌≤◌, length};
 ghost use Rattle.world_traits.specs.Clocks.{AreGiven, readings_max};
 ghost use Rattle.worker_turn.specs.Doing.{IsDone, world_of};
-ghost use Rattle.worker_turn.specs.Desks.{IsToldNow, TestsLast};
+ghost use Rattle.ledger_desk.specs.Desk.{TestsLast};
+ghost use Rattle.worker_turn.specs.Desks.{IsToldNow, RollsNone};
 ghost use Rattle.worker_turn.specs.Acts.{IsDoable, ticket_after};
 
 use crate::desk_acts::{Came, ask_goal, give_back, make_call, read_clock};
@@ -28,12 +29,11 @@ pub(crate) fn perform<D: Desk, N: Dialer, K: Clock>(
     requires doable { IsDoable job.now output ticket }
     requires readings { length watch.old.readings < readings_max }
     ensures done { IsDone job.now output result.input
-        (world_of (D.state desk.old) (N.links dialer.old) (N.faults dialer.old) watch.old.readings inbox.old)
-        (world_of (D.state desk.new) (N.links dialer.new) (N.faults dialer.new) watch.new.readings inbox.new) }
-    ensures told { IsToldNow (D.may_tell desk.new) (D.was_full desk.new) job.now.inverter (D.state desk.new)
-        result.input }
-    ensures last { TestsLast (D.may_tell desk.old) (D.may_tell desk.new) (D.was_full desk.old) (D.was_full desk.new)
-        (D.ended desk.old) (D.ended desk.new) (D.was_full_life desk.old) (D.was_full_life desk.new) }
+        (world_of (D.state desk.old).made (N.links dialer.old) (N.faults dialer.old) watch.old.readings inbox.old)
+        (world_of (D.state desk.new).made (N.links dialer.new) (N.faults dialer.new) watch.new.readings inbox.new) }
+    ensures told { IsToldNow (D.tests desk.new) job.now.inverter (D.state desk.new) result.input }
+    ensures last { TestsLast (D.tests desk.old) (D.tests desk.new) }
+    ensures stays { RollsNone (D.state desk.old) (D.state desk.new) }
     ensures kept { D.kept desk.new ≡ D.kept desk.old }
     ensures ticket { result.ticket ≡ ticket_after output result.input ticket }
     ensures given { AreGiven (K.may_give watch.old.clock) watch.old.readings

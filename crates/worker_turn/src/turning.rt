@@ -8,7 +8,8 @@ ghost use Rattle.inverter_worker.specs.declared.output.Asked.{Asked as Request};
 ghost use Rattle.inverter_worker.specs.Table.{HasRow, table};
 ghost use Rattle.inverter_worker.specs.Runs.{sends_of};
 ghost use Rattle.worker_turn.specs.Doing.{world_of};
-ghost use Rattle.worker_turn.specs.Desks.{TestsLast};
+ghost use Rattle.ledger_desk.specs.Desk.{TestsLast};
+ghost use Rattle.worker_turn.specs.Desks.{RollsNone};
 ghost use Rattle.worker_turn.specs.Acts.{Begins, is_last};
 ghost use Rattle.worker_turn.specs.Turning.{GoesOn};
 
@@ -34,12 +35,12 @@ pub(crate) fn go_on<D: Desk, N: Dialer, K: Clock>(
     requires reached { (from : Record) × (came : Cause) × (table job.now from came ≡ Some (begun.0, begun.1)) }
     requires room { begun.1 ≡ Output.Goal → vec_len log.old + 2 ≤ vec_capacity log.old }
     requires readings { watch.old.readings ≡ [] }
-    ensures turn { GoesOn (D.may_tell desk.new) (D.was_full desk.new) job.now begun.0 begun.1 result
+    ensures turn { GoesOn (D.tests desk.new) (D.state desk.old).front (D.state desk.new).front job.now begun.0 begun.1 result
         log.old.items log.new.items
-        (world_of (D.state desk.old) (N.links dialer.old) (N.faults dialer.old) watch.old.readings inbox.old)
-        (world_of (D.state desk.new) (N.links dialer.new) (N.faults dialer.new) watch.new.readings inbox.new) }
-    ensures last { TestsLast (D.may_tell desk.old) (D.may_tell desk.new) (D.was_full desk.old) (D.was_full desk.new)
-        (D.ended desk.old) (D.ended desk.new) (D.was_full_life desk.old) (D.was_full_life desk.new) }
+        (world_of (D.state desk.old).made (N.links dialer.old) (N.faults dialer.old) watch.old.readings inbox.old)
+        (world_of (D.state desk.new).made (N.links dialer.new) (N.faults dialer.new) watch.new.readings inbox.new) }
+    ensures last { TestsLast (D.tests desk.old) (D.tests desk.new) }
+    ensures stays { RollsNone (D.state desk.old) (D.state desk.new) }
     ensures kept { D.kept desk.new ≡ D.kept desk.old }
     ensures given { AreGiven (K.may_give watch.old.clock) watch.new.readings }
     ensures clock { watch.new.clock ≡ watch.old.clock }

@@ -42,7 +42,8 @@ impl Model for Worker {
 impl Worker {
     ghost use Rattle.world_traits.specs.Clocks.{AreGiven};
     ghost use Rattle.worker_turn.specs.Doing.{world_of};
-    ghost use Rattle.worker_turn.specs.Desks.{TestsLast};
+    ghost use Rattle.ledger_desk.specs.Desk.{TestsLast};
+    ghost use Rattle.worker_turn.specs.Desks.{RollsNone};
     ghost use Rattle.worker_turn.specs.Worker.{Answers, IsTurn, new_worker};
 
     /// A worker with so many turns, and no link.
@@ -100,37 +101,34 @@ impl Worker {
 
         // A worker that is ready makes a turn.
         ensures turn { self.old.state.step ≡ Step.Ready
-            → IsTurn (D.may_tell desk.new) (D.was_full desk.new) self.old self.new
-            (world_of (D.state desk.old) (N.links dialer.old) (N.faults dialer.old) watch.old.readings
+            → IsTurn (D.tests desk.new) (D.state desk.old).front (D.state desk.new).front self.old self.new
+            (world_of (D.state desk.old).made (N.links dialer.old) (N.faults dialer.old) watch.old.readings
             self.old.unread)
-            (world_of (D.state desk.new) (N.links dialer.new) (N.faults dialer.new) watch.new.readings
+            (world_of (D.state desk.new).made (N.links dialer.new) (N.faults dialer.new) watch.new.readings
             self.new.unread) }
         ensures few { length watch.new.readings ≤ 6 }
         ensures given { AreGiven (K.may_give watch.old.clock) watch.new.readings }
 
         // Where it found no memory it did nothing else.
         ensures memory { self.new.state.step ≡ Step.Over End.NoMemory → (self.new.log ≡ self.old.log)
-            × (world_of (D.state desk.new) (N.links dialer.new) (N.faults dialer.new) watch.new.readings
+            × (world_of (D.state desk.new).made (N.links dialer.new) (N.faults dialer.new) watch.new.readings
             self.new.unread
-            ≡ world_of (D.state desk.old) (N.links dialer.old) (N.faults dialer.old) watch.old.readings
+            ≡ world_of (D.state desk.old).made (N.links dialer.old) (N.faults dialer.old) watch.old.readings
             self.old.unread) }
 
         // One that is over does nothing.
         ensures over { (end : Ending) → self.old.state.step ≡ Step.Over end → (self.new ≡ self.old)
-            × (world_of (D.state desk.new) (N.links dialer.new) (N.faults dialer.new) watch.new.readings
+            × (world_of (D.state desk.new).made (N.links dialer.new) (N.faults dialer.new) watch.new.readings
             self.new.unread
-            ≡ world_of (D.state desk.old) (N.links dialer.old) (N.faults dialer.old) watch.old.readings
+            ≡ world_of (D.state desk.old).made (N.links dialer.old) (N.faults dialer.old) watch.old.readings
             self.old.unread) }
 
         // A worker that is ready again has fewer turns left.
         ensures fewer { result ≡ Turned.Again → self.new.state.turns < self.old.state.turns }
 
         // It rolls no book, and what passed a test of the desk passes it later too.
-        ensures rolls { (D.state desk.new).rolls ≡ (D.state desk.old).rolls }
-        ensures inverters { (D.state desk.new).inverters ≡ (D.state desk.old).inverters }
-        ensures last { TestsLast (D.may_tell desk.old) (D.may_tell desk.new) (D.was_full desk.old)
-            (D.was_full desk.new) (D.ended desk.old) (D.ended desk.new) (D.was_full_life desk.old)
-            (D.was_full_life desk.new) }
+        ensures stays { RollsNone (D.state desk.old) (D.state desk.new) }
+        ensures last { TestsLast (D.tests desk.old) (D.tests desk.new) }
         ensures kept { D.kept desk.new ≡ D.kept desk.old }
         ensures clock { watch.new.clock ≡ watch.old.clock }
     {

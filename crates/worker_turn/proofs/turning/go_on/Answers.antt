@@ -9,19 +9,20 @@ use Rattle.worker_turn.specs.Doing.{world_of}
 use Rattle.worker_turn.specs.Acts.{is_last, ticket_after}
 use Rattle.worker_turn.proofs.Rows.{led, not_ready}
 use Rattle.worker_turn.proofs.Going.{at_first, one_more, answers, moves}
-use Rattle.worker_turn.proofs.Rooms.{uses, begins_stands, begins_held, begins_clock, begins_room, lasting, same}
+use Rattle.worker_turn.proofs.Rooms.{uses, begins_stands, begins_held, begins_clock, begins_room, lasting, same, staying, still}
 use Rattle.worker_turn.proofs.turning.go_on.Goals as goal
 
 pub loop-output-init : goal.loop-output-init
 loop-output-init g c =
     let begun = c.args.begun in
-    let world = world_of (g.D.Desk.state c.args.desk.now) (g.N.Dialer.links c.args.dialer.now) (g.N.Dialer.faults c.args.dialer.now) c.args.watch.now.readings c.args.inbox.now in
+    let world = world_of (g.D.Desk.state c.args.desk.now).made (g.N.Dialer.links c.args.dialer.now) (g.N.Dialer.faults c.args.dialer.now) c.args.watch.now.readings c.args.inbox.now in
     let stands = begins_stands c.args.job.now begun.0.step begun.1 c.requires.begun in
     let none : length c.args.watch.now.readings ≡ 0 = ap length c.requires.readings in
     record {
       later = [];
       follows = at_first _ _ c.args.job.now begun.0 begun.1 c.args.log.now.items world stands c.requires.reached.0 c.requires.reached.1 c.requires.reached.2;
-      last = same _ _ _ _;
+      last = same _;
+      stays = still _;
       kept = refl;
       ticket = begins_held c.args.job.now begun.0.step begun.1 c.requires.begun;
       clock = refl;
@@ -70,9 +71,10 @@ loop-output-preserved g c =
     let read = ap length does.readings in
     record {
       later = invariant.later ++ record { state = state; input = came; output = following } ∷ [];
-      follows = one_more _ _ _ _ job c.args.begun.0 c.args.begun.1 invariant.later state next last following came _ _ _ _ _ _ invariant.follows going done c.next.ensures.row
-          c.perform-came.ensures.last.goals c.perform-came.ensures.last.full c.perform-came.ensures.told c.next.ensures.noted;
-      last = lasting _ _ _ _ _ _ _ _ _ _ _ _ invariant.last c.perform-came.ensures.last;
+      follows = one_more _ _ _ _ (g.D.Desk.state c.perform-came.new.desk) job c.args.begun.0 c.args.begun.1 invariant.later state next last following came _ _ _ _ _ _ invariant.follows going done c.next.ensures.row
+          c.perform-came.ensures.last invariant.stays.front c.perform-came.ensures.stays.front refl c.perform-came.ensures.told c.next.ensures.noted;
+      last = lasting _ _ _ invariant.last c.perform-came.ensures.last;
+      stays = staying _ _ _ invariant.stays c.perform-came.ensures.stays;
       kept = c.perform-came.ensures.kept ∙ invariant.kept;
       ticket = c.perform-came.ensures.ticket ∙ ap (ticket_after last came) invariant.ticket ∙ goes.ticket;
       clock = c.perform-came.ensures.clock ∙ invariant.clock;

@@ -4,7 +4,8 @@ use Rattle.world_traits.specs.Clocks.{AreGiven}
 use Rattle.inverter_worker.specs.Runs.{RunStep}
 use Rattle.inverter_worker.proofs.Turns.{steps_left, clock_left, requests_left}
 use Rattle.worker_turn.specs.Doing.{world_of}
-use Rattle.worker_turn.specs.Desks.{TestsLast}
+use Rattle.ledger_desk.specs.Desk.{TestsLast}
+use Rattle.worker_turn.specs.Desks.{RollsNone}
 use Rattle.worker_turn.specs.Acts.{held}
 use Rattle.worker_turn.specs.Turning.{Follows}
 use Rattle.worker_turn.proofs.turning.go_on.Given as goal
@@ -13,11 +14,11 @@ use Rattle.worker_turn.proofs.turning.go_on.Given as goal
 abbrev pub invariant-loop-output : goal.invariant-loop-output
 invariant-loop-output g l = record {
   later : List RunStep;
-  follows : Follows (g.D.Desk.may_tell l.desk) (g.D.Desk.was_full l.desk) l.job l.fn.begun.0 l.fn.begun.1 later l.state l.output l.fn.log.items l.log.items
-      (world_of (g.D.Desk.state l.fn.desk) (g.N.Dialer.links l.fn.dialer) (g.N.Dialer.faults l.fn.dialer) l.fn.watch.readings l.fn.inbox)
-      (world_of (g.D.Desk.state l.desk) (g.N.Dialer.links l.dialer) (g.N.Dialer.faults l.dialer) l.watch.readings l.inbox);
-  last : TestsLast (g.D.Desk.may_tell l.fn.desk) (g.D.Desk.may_tell l.desk) (g.D.Desk.was_full l.fn.desk) (g.D.Desk.was_full l.desk)
-      (g.D.Desk.ended l.fn.desk) (g.D.Desk.ended l.desk) (g.D.Desk.was_full_life l.fn.desk) (g.D.Desk.was_full_life l.desk);
+  follows : Follows (g.D.Desk.tests l.desk) (g.D.Desk.state l.fn.desk).front (g.D.Desk.state l.desk).front l.job l.fn.begun.0 l.fn.begun.1 later l.state l.output l.fn.log.items l.log.items
+      (world_of (g.D.Desk.state l.fn.desk).made (g.N.Dialer.links l.fn.dialer) (g.N.Dialer.faults l.fn.dialer) l.fn.watch.readings l.fn.inbox)
+      (world_of (g.D.Desk.state l.desk).made (g.N.Dialer.links l.dialer) (g.N.Dialer.faults l.dialer) l.watch.readings l.inbox);
+  last : TestsLast (g.D.Desk.tests l.fn.desk) (g.D.Desk.tests l.desk);
+  stays : RollsNone (g.D.Desk.state l.fn.desk) (g.D.Desk.state l.desk);
   kept : g.D.Desk.kept l.desk ≡ g.D.Desk.kept l.fn.desk;
   ticket : l.ticket ≡ held l.state.step;
   clock : l.watch.clock ≡ l.fn.watch.clock;

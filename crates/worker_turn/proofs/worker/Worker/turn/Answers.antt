@@ -15,41 +15,43 @@ returns g c =
     let before : WorkerRecord = record { job = inside.job; state = inside.state; log = inside.log.items; unread = inside.inbox } in
     let after : WorkerRecord =
     record { job = inside.job; state = c.go_on-state.result; log = c.go_on-state.new.log.items; unread = c.go_on-state.new.inbox } in
-    let may_tell = g.D.Desk.may_tell c.go_on-state.new.desk in
-    let was_full = g.D.Desk.was_full c.go_on-state.new.desk in
+    let tests = g.D.Desk.tests c.go_on-state.new.desk in
     let desk = g.D.Desk.state c.args.desk.now in
+    let desk_now = g.D.Desk.state c.go_on-state.new.desk in
+    let made = desk.made in
+    let front = desk.front in
+    let front_now = desk_now.front in
     let links = g.N.Dialer.links c.args.dialer.now in
     let faults = g.N.Dialer.faults c.args.dialer.now in
     let readings = c.args.watch.now.readings in
-    let old : World = world_of desk links faults readings inside.inbox in
+    let old : World = world_of made links faults readings inside.inbox in
     let new : World =
-    world_of (g.D.Desk.state c.go_on-state.new.desk) (g.N.Dialer.links c.go_on-state.new.dialer) (g.N.Dialer.faults c.go_on-state.new.dialer)
+    world_of desk_now.made (g.N.Dialer.links c.go_on-state.new.dialer) (g.N.Dialer.faults c.go_on-state.new.dialer)
     c.go_on-state.new.watch.readings c.go_on-state.new.inbox in
     let begun = c.begin-begun.result in
-    let P : List Sent → Type 0 = λ logged. GoesOn may_tell was_full before.job begun.0 begun.1 after.state logged after.log old new in
-    let goes : GoesOn may_tell was_full before.job begun.0 begun.1 after.state before.log after.log old new =
+    let P : List Sent → Type 0 = λ logged. GoesOn tests front front_now before.job begun.0 begun.1 after.state logged after.log old new in
+    let goes : GoesOn tests front front_now before.job begun.0 begun.1 after.state before.log after.log old new =
     subst P c.begin-begun.ensures.items c.go_on-state.ensures.turn in
     let ready : inside.state.step ≡ Ready = between inside.state.step c.self.invariant.1 c.in_default.not-Over in
     let row = c.begin-begun.ensures.row in
-    let turn : IsTurn may_tell was_full before after old new =
-    whole may_tell was_full before after begun.0 begun.1 row.0 old new row.1 row.2 c.begin-begun.ensures.begins c.requires.readings goes in
-    let Q : WorkerRecord → Type 0 = λ worker. IsTurn may_tell was_full worker after (world_of desk links faults readings worker.unread) new in
+    let turn : IsTurn tests front front_now before after old new =
+    whole tests front front_now before after begun.0 begun.1 row.0 old new row.1 row.2 c.begin-begun.ensures.begins c.requires.readings goes in
+    let Q : WorkerRecord → Type 0 = λ worker. IsTurn tests front front_now worker after (world_of made links faults readings worker.unread) new in
     record {
       answer = c.turned.ensures;
       job = ap (λ (w : WorkerRecord). w.job) view;
       turn = λ _. subst Q view turn;
-      few = few may_tell was_full before after old new turn;
+      few = few tests front front_now before after old new turn;
       given = c.go_on-state.ensures.given;
-      memory = λ short. let i = idle may_tell was_full before.job begun.0 after.state begun.1 before.log after.log old new goes short in (
+      memory = λ short. let i = idle tests front front_now before.job begun.0 after.state begun.1 before.log after.log old new goes short in (
         i.0 ∙ ap (λ (w : WorkerRecord). w.log) view,
-        i.1 ∙ ap (λ (w : WorkerRecord). world_of desk links faults readings w.unread) view,
+        i.1 ∙ ap (λ (w : WorkerRecord). world_of made links faults readings w.unread) view,
       );
       over = λ end is. absurd (c.in_default.not-Over end (ap (λ (w : WorkerRecord). w.state.step) view ∙ is));
       fewer = λ again. ready_fewer after.state.step after.state.turns c.args.self.now.state.turns (again_ready c.turned.result after.state.step c.turned.ensures again)
-          (subst (λ (w : WorkerRecord). left after.state + 1 ≤ suc w.state.turns) view (fewer may_tell was_full before after old new ready turn));
+          (subst (λ (w : WorkerRecord). left after.state + 1 ≤ suc w.state.turns) view (fewer tests front front_now before after old new ready turn));
       kept = c.go_on-state.ensures.kept;
-      rolls = goes.follows.rolls;
-      inverters = goes.follows.inverters;
+      stays = c.go_on-state.ensures.stays;
       last = c.go_on-state.ensures.last;
       clock = c.go_on-state.ensures.clock;
     }
