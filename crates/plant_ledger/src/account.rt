@@ -6,7 +6,9 @@ ghost use Rattle.limiter_num.specs.Timers as timers;
 ghost use Rattle.plant_book.specs.Writes.{frees};
 ghost use Rattle.uncertain_writes.specs.Live.{without};
 ghost use Rattle.plant_ledger.specs.Ledger.{account_at};
-ghost use Rattle.plant_ledger.specs.Account.{first_account, unit_by, most_of, reserved_of, claim_by, AreFrom, HasRoom, IsStep, after_ask, after_read, after_saw, after_back, after_call};
+ghost use Rattle.plant_ledger.specs.Account.{first_account, unit_by, most_of, reserved_of};
+ghost use Rattle.plant_ledger.specs.Account.{claim_by, AreFrom, HasRoom, IsStep, after_ask};
+ghost use Rattle.plant_ledger.specs.Account.{after_read, after_saw, after_back, after_call};
 
 use limiter_num::{Rating, Rules};
 use plant_book::{Call, Claim, Entry, Read, Reply, Unit, UnitCarry};

@@ -1,5 +1,6 @@
 //! What is known of the level of the fair shares, so that few replies go through the claims.
-ghost use Rattle.std.specs.Prelude.{◌≡◌, ℕ, ◌+◌, ◌<◌, ◌≤◌, ◌^◌, nat_le, List, length, None, IfSome, sum_by, slice_set, slice_index_or};
+ghost use Rattle.std.specs.Prelude.{◌≡◌, ℕ, ◌+◌, ◌<◌, ◌≤◌, ◌^◌, nat_le, List, length};
+ghost use Rattle.std.specs.Prelude.{None, IfSome, sum_by, slice_set, slice_index_or};
 ghost use Rattle.share_policy.specs.declared.claim.Claim.{Claim as Claimed};
 ghost use Rattle.share_policy.specs.Claims.{IsFeasible};
 ghost use Rattle.share_policy.specs.Shares.{share_at, level_of};

@@ -1,5 +1,7 @@
 //! A book, and the account of each inverter.
-ghost use Rattle.std.specs.Prelude.{◌≡◌, ℕ, ◌<◌, ◌≤◌, ◌^◌, nat_le, ◌||◌, ◌⊎◌, if◌then◌else◌, [], ◌∷◌, ◌++◌, length, map, Some, None, IfOk, IfErr, IfSome, OnOk, OnErr, slice_get, slice_set, slice_index_or};
+ghost use Rattle.std.specs.Prelude.{◌≡◌, ℕ, ◌<◌, ◌≤◌, ◌^◌, nat_le, ◌||◌, ◌⊎◌, if◌then◌else◌};
+ghost use Rattle.std.specs.Prelude.{[], ◌∷◌, ◌++◌, length, map, Some, None, IfOk, IfErr, IfSome};
+ghost use Rattle.std.specs.Prelude.{OnOk, OnErr, slice_get, slice_set, slice_index_or};
 ghost use Rattle.plant_book.specs.Site.{inverters, floors, full_at, mw_at};
 ghost use Rattle.plant_book.specs.Caps.{sets_cap, cap_by, cap_of};
 ghost use Rattle.plant_book.specs.Calls.{moment, named};
@@ -54,7 +56,8 @@ impl Model for Ledger {
 
     ghost view = { λ l. record { book = l.book; at = l.moment } };
 
-    ghost invariant = { λ l. Keeps l.book l.moment l.accounts.items l.claims.items l.expiries l.sums l.cap l.stopped l.reach };
+    ghost invariant = { λ l.
+        Keeps l.book l.moment l.accounts.items l.claims.items l.expiries l.sums l.cap l.stopped l.reach };
 }
 
 impl Ledger {

@@ -1,5 +1,6 @@
 -- What each call makes of the list of an inverter's live writes.
-use Rattle.std.specs.Prelude.{◌≡◌, ℕ, ◌^◌, ◌≤◌, Bool, IsTrue, not, ◌&&◌, ◌==◌, nat_lt, List, length, drop, filter, fold, map, max}
+use Rattle.std.specs.Prelude.{◌≡◌, ℕ, ◌^◌, ◌≤◌, Bool, IsTrue, not, ◌&&◌, ◌==◌}
+use Rattle.std.specs.Prelude.{nat_lt, List, length, drop, filter, fold, map, max}
 use Rattle.std.specs.List.Sorted.{IsNonDecreasingBy}
 use Rattle.limiter_num.specs.declared.rules.Rules.{Rules}
 use Rattle.limiter_num.specs.Timers.{last_moment}

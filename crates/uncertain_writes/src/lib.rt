@@ -1,7 +1,7 @@
 //! The uncertain writes of an inverter: those that may still act or be held, as far as the calls on the ledger tell.
 //!
-//! The layer above relies on one contract: a `Live` holds a list, and each call leaves a filter of it, or one more write
-//! at its end. `lists_follow_the_book` says that so it holds the live writes of a book, call by call.
+//! The layer above relies on one contract: a `Live` holds a list, and each call leaves a filter of it, or one more
+//! write at its end. `lists_follow_the_book` says that so it holds the live writes of a book, call by call.
 #![tactic(auto)]
 
 mod kept;

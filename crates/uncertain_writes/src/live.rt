@@ -1,10 +1,12 @@
 //! The list of live writes.
-ghost use Rattle.std.specs.Prelude.{◌≡◌, ◌*◌, ◌^◌, ◌≤◌, ◌<◌, ◌↔◌, IsTrue, nat_le, [], ◌∷◌, ◌++◌, Some, length, drop, filter, fold, map, max, IsOk, OnOk, OnErr, IfErr};
+ghost use Rattle.std.specs.Prelude.{◌≡◌, ◌*◌, ◌^◌, ◌≤◌, ◌<◌, ◌↔◌, IsTrue, nat_le, [], ◌∷◌, ◌++◌, Some};
+ghost use Rattle.std.specs.Prelude.{length, drop, filter, fold, map, max, IsOk, OnOk, OnErr, IfErr};
 ghost use Rattle.std.specs.List.{All, list_any};
 ghost use Rattle.limiter_num.specs.Rating.{mw};
 ghost use Rattle.plant_book.specs.declared.call.Write.{Write as Written};
 ghost use Rattle.plant_book.specs.Writes.{frees};
-ghost use Rattle.uncertain_writes.specs.Live.{live_max, moment_max, is_past, has_numbers, has_raw, without, most_raw, AreInOrder};
+ghost use Rattle.uncertain_writes.specs.Live.{live_max, moment_max, is_past, has_numbers};
+ghost use Rattle.uncertain_writes.specs.Live.{has_raw, without, most_raw, AreInOrder};
 
 use crate::kept::Kept;
 use crate::places::{Places, holds};
