@@ -8,6 +8,7 @@ mod kept;
 mod laws;
 mod live;
 mod places;
+mod rising;
 
 pub use laws::{lists_follow_the_book, the_greatest_is_reserved};
 pub use live::Live;
