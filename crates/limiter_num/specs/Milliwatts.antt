@@ -1,5 +1,6 @@
 -- Milliwatts of a raw percentage, by the points WMax, W_SF and WMaxLimPct_SF.
-use Rattle.std.specs.Prelude.{◌≡◌, ℕ, ◌+◌, ◌*◌, ◌^◌, ◌<◌, ◌≤◌, Bool, nat_le, nat_lt, ◌==◌, ◌||◌, if◌then◌else◌, Option, Some, None, ℤ, pos, negsuc, ◌+ℤ◌, ◌≤ℤ◌}
+use Rattle.std.specs.Prelude.{◌≡◌, ℕ, ◌+◌, ◌*◌, ◌^◌, ◌<◌, ◌≤◌, Bool, nat_le, nat_lt, ◌==◌, ◌||◌}
+use Rattle.std.specs.Prelude.{if◌then◌else◌, Option, Some, None, ℤ, pos, negsuc, ◌+ℤ◌, ◌≤ℤ◌}
 use Rattle.std.proofs.Common.{suc}
 use Rattle.std.specs.Int.{div_ceil}
 use Rattle.limiter_num.specs.Greatest.{greatest_up_to}

@@ -1,5 +1,6 @@
 -- Why points make no rating, by the first cause in the order of this file.
-use Rattle.std.specs.Prelude.{◌≡◌, ℕ, ◌^◌, Bool, true, false, nat_lt, ◌==◌, ◌||◌, if◌then◌else◌, Option, Some, None, ℤ, pos, negsuc}
+use Rattle.std.specs.Prelude.{◌≡◌, ℕ, ◌^◌, Bool, true, false, nat_lt, ◌==◌, ◌||◌}
+use Rattle.std.specs.Prelude.{if◌then◌else◌, Option, Some, None, ℤ, pos, negsuc}
 use Rattle.std.specs.Int.RustNames.{int_lt}
 use Rattle.limiter_num.specs.Milliwatts.{mw_of, full_of}
 use Rattle.limiter_num.specs.declared.rating.RatingFault.{RatingFault}

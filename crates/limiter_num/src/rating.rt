@@ -1,4 +1,5 @@
-ghost use Rattle.std.specs.Prelude.{◌≡◌, ℕ, ◌+◌, ◌*◌, ◌^◌, ◌<◌, ◌≤◌, MatchResult, IfOk, None, Some, pos, negsuc, ◌≤ℤ◌, nat_le};
+ghost use Rattle.std.specs.Prelude.{◌≡◌, ℕ, ◌+◌, ◌*◌, ◌^◌, ◌<◌, ◌≤◌, pos, negsuc, ◌≤ℤ◌, nat_le};
+ghost use Rattle.std.specs.Prelude.{MatchResult, IfOk, None, Some};
 ghost use Rattle.std.specs.Int.RustNames.{unsigned_abs};
 ghost use Rattle.limiter_num.specs.Greatest.{greatest_up_to};
 ghost use Rattle.limiter_num.specs.Milliwatts.{scaled_up, power_of, mw_of, full_of, IsRated};
@@ -228,6 +229,13 @@ impl Rating {
         milliwatts(self.wmax, self.wsf, self.psf, raw) as u64
     }
 
+    /// The power of ten that turns WMax times a raw percentage into milliwatts.
+    pub fn power(&self) -> i32
+        ensures { result ≡ power_of self.now.wsf self.now.psf }
+    {
+        power(self.wsf, self.psf)
+    }
+
     /// The greatest raw percentage that is at most 100 percent.
     pub fn full(&self) -> u16
         ensures { result ≡ full self.now }
@@ -240,7 +248,7 @@ impl Rating {
     pub fn raw_at_most(&self, mw: u64) -> u16
         ensures { result ≡ raw_at_most self.now mw }
     {
-        raw_at_most(self.wmax, power(self.wsf, self.psf), self.full(), mw)
+        raw_at_most(self.wmax, self.power(), self.full(), mw)
     }
 }
 

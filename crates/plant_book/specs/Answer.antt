@@ -1,5 +1,6 @@
 -- The reply to a call, from the whole book before it.
-use Rattle.std.specs.Prelude.{ℕ, ◌+◌, ◌-◌, Bool, true, false, not, ◌||◌, nat_le, nat_lt, ◌==◌, if◌then◌else◌, min, max, List, length, filter, Option, Some, None}
+use Rattle.std.specs.Prelude.{ℕ, ◌+◌, ◌-◌, Bool, true, false, not, ◌||◌, nat_le, nat_lt, ◌==◌}
+use Rattle.std.specs.Prelude.{if◌then◌else◌, min, max, List, length, filter, Option, Some, None}
 use Rattle.std.specs.List.{list_any}
 use Rattle.limiter_num.specs.Timers.{reach}
 use Rattle.plant_book.specs.declared.call.Call.{Call}
@@ -64,7 +65,12 @@ unfoldable pub reply_to_read : BookRecord → ℕ → ℕ → Reply
 reply_to_read book now inverter =
     if link_number inverter book.entries == 0 then replies.Unlinked
     else if nat_le REQUESTS_MAX (requests inverter book.entries) then replies.Spent
-    else replies.ReadAs (record { inverter = inverter; link = link_number inverter book.entries; number = requests inverter book.entries + 1; at = now })
+    else replies.ReadAs (record {
+      inverter = inverter;
+      link = link_number inverter book.entries;
+      number = requests inverter book.entries + 1;
+      at = now;
+    })
 
 -- whether a raw percentage is the floor's or that of one of these writes
 abbrev pub is_raw_of : ℕ → ℕ → List writes.Write → Bool

@@ -1,11 +1,13 @@
 -- What an inverter may have done over a history: the timed device. A whole write acts at once and starts its timer
 -- anew; when the timer runs out the inverter goes back to its floor.
-use Rattle.std.specs.Prelude.{◌≡◌, ℕ, ◌+◌, ◌≤◌, ◌==◌, ◌&&◌, Bool, true, false, List, [], ◌∷◌, ◌++◌, find, Option, Some, None, IsSomeAnd, count_by, Contains}
+use Rattle.std.specs.Prelude.{◌≡◌, ℕ, ◌+◌, ◌≤◌, ◌==◌, ◌&&◌, Bool, true, false, List, [], ◌∷◌}
+use Rattle.std.specs.Prelude.{◌++◌, find, Option, Some, None, IsSomeAnd, count_by, Contains}
 use Rattle.limiter_num.specs.declared.rules.Rules.{Rules}
 use Rattle.limiter_num.specs.Timers.{tmin, tmax, last_act}
 use Rattle.plant_book.specs.Sums.{last_that}
 use Rattle.plant_book.specs.Site.{SiteRecord, floor_raw_at}
-use Rattle.plant_book.specs.History.{History, Grant, Sight, grants, sights, is_granted_after, link_of_grant, link_of_sight}
+use Rattle.plant_book.specs.History.{History, Grant, Sight, grants, sights, is_granted_after}
+use Rattle.plant_book.specs.History.{link_of_grant, link_of_sight}
 
 -- a write acts, the timer runs out, or a read is looked at
 pub data Event : Type 0 where

@@ -1,5 +1,6 @@
 -- What the policy allows an inverter.
-use Rattle.std.specs.Prelude.{ℕ, Bool, true, false, ◌==◌, nat_lt, if◌then◌else◌, min, map, List, Option, Some, None, is_some, unwrap_or}
+use Rattle.std.specs.Prelude.{ℕ, Bool, true, false, ◌==◌, nat_lt, if◌then◌else◌, min}
+use Rattle.std.specs.Prelude.{map, List, Option, Some, None, is_some, unwrap_or}
 use Rattle.std.specs.List.{range_with_len}
 use Rattle.share_policy.specs.declared.claim.Claim.{Claim}
 use Rattle.share_policy.specs.declared.claim.Policy.TheVariants as policies
@@ -60,7 +61,11 @@ trusted book inverter = if is_strange inverter book.entries then floor_at book.s
 
 -- what an inverter's share goes by
 abbrev pub claim_of : BookRecord → ℕ → Claim
-claim_of book inverter = record { floor = floor_at book.site inverter; wish = wish book inverter; rated = trusted book inverter }
+claim_of book inverter = record {
+  floor = floor_at book.site inverter;
+  wish = wish book inverter;
+  rated = trusted book inverter;
+}
 
 -- the claims of all inverters in the order of their numbers
 unfoldable pub claims : BookRecord → List Claim

@@ -1,4 +1,5 @@
-ghost use Rattle.std.specs.Prelude.{◌≡◌, ◌+◌, ◌<◌, ◌≤◌, nat_le, ◌++◌, filter, length, take, IfSome, option_to_list, not};
+ghost use Rattle.std.specs.Prelude.{◌≡◌, ◌+◌, ◌<◌, ◌≤◌, nat_le, ◌++◌, filter};
+ghost use Rattle.std.specs.Prelude.{length, take, IfSome, option_to_list, not};
 ghost use Rattle.limiter_num.specs.Timers.{last_moment};
 ghost use Rattle.plant_book.specs.Site.{inverters};
 ghost use Rattle.plant_book.specs.Calls.{named};

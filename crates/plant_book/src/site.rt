@@ -75,7 +75,13 @@ impl Model for Site {
 
     ghost Value = { SiteRecord };
 
-    ghost view = { λ s. record { cap = s.cap; rules = s.rules; policy = s.policy; room = s.room; units = s.units.items } };
+    ghost view = { λ s. record {
+      cap = s.cap;
+      rules = s.rules;
+      policy = s.policy;
+      room = s.room;
+      units = s.units.items;
+    } };
 
     ghost invariant = { λ s. IsSite
         (record { cap = s.cap; rules = s.rules; policy = s.policy; room = s.room; units = s.units.items }) };

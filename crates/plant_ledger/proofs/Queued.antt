@@ -1,26 +1,20 @@
 -- What the queue of grants tells of the accounts.
-use Rattle.std.proofs.Common.{◌≡◌, ◌≢◌, ◌⊎◌, ℕ, ◌+◌, ◌<◌, ◌≤◌, Bool, true, false, cond, not, ◌&&◌, ◌||◌, eqb, List, [], ◌∷◌, length, get_or, map, Option, Some, None, refl, sym, ap, subst, ◌∙◌, arith, inl, inr}
+use Rattle.std.proofs.Common.{◌≡◌, ◌≢◌, ◌⊎◌, ℕ, ◌+◌, ◌<◌, ◌≤◌, Bool, true, false, cond, not, ◌&&◌, ◌||◌, eqb, List, [], ◌∷◌, length, get_or, map, Some, None, refl, sym, ap, subst, ◌∙◌, arith, inl, inr}
 use Rattle.std.specs.Prelude.{filter, slice_set}
 use Rattle.std.specs.List.{All, list_any}
 use Rattle.std.proofs.lemmas.Bool.{cases_Bool, cases_eq, cases_lt, and_parts, eqb-true, ne_eqb, lt-ltb, le-ltb}
 use Rattle.std.proofs.lemmas.List.{get_or-set_same, get_or-set_other}
-use Rattle.std.proofs.lemmas.List.Elements.{All-head, All-tail, All-weaker, All-push, All-filter, filter_passes}
+use Rattle.std.proofs.lemmas.List.Elements.{All-head, All-tail, All-weaker, All-filter, filter_passes}
 use Rattle.std.proofs.Math.Seq.{map-set_same}
 use Rattle.limiter_num.specs.declared.rules.Rules.{Rules}
 use Rattle.limiter_num.specs.Timers.{reach, last_moment}
 use Rattle.plant_book.specs.declared.call.Write as writes
-use Rattle.plant_book.specs.declared.call.Call.{Call}
-use Rattle.plant_book.specs.declared.call.Call.TheVariants as calls
-use Rattle.plant_book.specs.declared.call.Reply.{Reply}
-use Rattle.plant_book.specs.declared.call.Reply.TheVariants as replies
-use Rattle.plant_book.specs.Calls.{named}
-use Rattle.plant_book.specs.declared.book.Entry.{Entry}
 use Rattle.revert_timers.specs.declared.expiries.Due.{Due}
 use Rattle.revert_timers.specs.Expiries.{first_past}
 use Rattle.revert_timers.specs.Expiries as dues
 use Rattle.uncertain_writes.specs.Live.{is_past}
 use Rattle.uncertain_writes.proofs.Lists.{filter-filter}
-use Rattle.plant_ledger.specs.Account.{Account, AreFrom, after_call}
+use Rattle.plant_ledger.specs.Account.{Account, AreFrom}
 use Rattle.plant_ledger.specs.Ledger.{account_at}
 use Rattle.plant_ledger.specs.Queue.{is_due, HavePlaces}
 

@@ -1,5 +1,7 @@
 -- What the ledger keeps of one inverter, and what one more entry makes of it.
-use Rattle.std.specs.Prelude.{◌≡◌, ℕ, ◌+◌, ◌*◌, ◌^◌, ◌<◌, ◌≤◌, Bool, true, false, if◌then◌else◌, List, ◌∷◌, [], ◌++◌, length, map, fold, max, slice_get, Option, Some, None, IfSome}
+use Rattle.std.specs.Prelude.{◌≡◌, ℕ, ◌+◌, ◌*◌, ◌^◌, ◌<◌, ◌≤◌, Bool, true, false, if◌then◌else◌, List}
+use Rattle.std.specs.Prelude.{◌∷◌, [], ◌++◌, length, map, fold, max, slice_get, Option, Some, None}
+use Rattle.std.specs.Prelude.{IfSome}
 use Rattle.std.specs.List.{All}
 use Rattle.limiter_num.specs.declared.rules.Rules.{Rules}
 use Rattle.limiter_num.specs.Rating.{mw, full, rated}
@@ -33,7 +35,8 @@ pub record Account : Type 0 where
 
 -- the greatest of an inverter's floor and the limits of these writes, in milliwatts
 unfoldable pub most_of : Inverter → List written.Write → ℕ
-most_of unit its_writes = max (mw unit.rating unit.floor) (fold max 0 (map (λ write. mw unit.rating write.raw) its_writes))
+most_of unit its_writes =
+    max (mw unit.rating unit.floor) (fold max 0 (map (λ write. mw unit.rating write.raw) its_writes))
 
 -- what is reserved for the inverter of an account, in milliwatts
 abbrev pub reserved_of : Account → ℕ

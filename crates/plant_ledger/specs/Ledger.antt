@@ -1,5 +1,6 @@
 -- A book of a life and what the ledger keeps beside it.
-use Rattle.std.specs.Prelude.{◌≡◌, ℕ, ◌*◌, ◌^◌, ◌<◌, ◌≤◌, Bool, if◌then◌else◌, List, length, map, sum_by, Option, Some, IfSome, slice_index_or}
+use Rattle.std.specs.Prelude.{◌≡◌, ℕ, ◌*◌, ◌^◌, ◌<◌, ◌≤◌, Bool, if◌then◌else◌, List, length}
+use Rattle.std.specs.Prelude.{map, sum_by, Option, Some, IfSome, slice_index_or}
 use Rattle.std.specs.List.{All}
 use Rattle.limiter_num.specs.declared.rules.Rules.{Rules}
 use Rattle.limiter_num.specs.Timers.{reach}
@@ -87,8 +88,8 @@ abbrev pub mark_after : Option marks.CapMark → Entry → ℕ → Option marks.
 mark_after mark entry total = if sets_cap entry then Some (record { at = moment entry.call; was = total }) else mark
 
 -- All that the ledger keeps: each number is the definition's of the lives that go on in this book.
-pub record Keeps (part : PartRecord) (now : ℕ) (accounts : List Account) (claims : List Claim) (queue : List Due) (together : Sums) (cap : ℕ) (stopped : Bool)
-    (held : ℕ) : Type 0 where
+pub record Keeps (part : PartRecord) (now : ℕ) (accounts : List Account) (claims : List Claim)
+    (queue : List Due) (together : Sums) (cap : ℕ) (stopped : Bool) (held : ℕ) : Type 0 where
   pub reach_is : held ≡ reach part.site.rules
   pub reach_low : held ≤ 130860000
   pub numbers : IsLedgerOf part now accounts cap stopped

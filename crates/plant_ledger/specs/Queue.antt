@@ -1,5 +1,6 @@
 -- The queue of live writes by their last moments: each live write stands there once, and nothing else does.
-use Rattle.std.specs.Prelude.{◌≡◌, ℕ, ◌<◌, ◌≤◌, Bool, true, ◌&&◌, ◌==◌, List, [], ◌∷◌, ◌++◌, length, map, filter, slice_index_or}
+use Rattle.std.specs.Prelude.{◌≡◌, ℕ, ◌<◌, ◌≤◌, Bool, true, ◌&&◌, ◌==◌, List, []}
+use Rattle.std.specs.Prelude.{◌∷◌, ◌++◌, length, map, filter, slice_index_or}
 use Rattle.std.specs.List.{All, list_any}
 use Rattle.limiter_num.specs.declared.rules.Rules.{Rules}
 use Rattle.limiter_num.specs.Timers.{last_moment}
@@ -47,7 +48,8 @@ is_due rules inverter write due = (due.inverter == inverter) && (due.last == las
 -- each live write has a place
 abbrev pub HavePlaces : Rules → List Due → List Account → Type 0
 HavePlaces rules queue accounts = (inverter : ℕ) (otherwise : Account) → inverter < length accounts
-    → All (λ write. list_any (is_due rules inverter write) queue ≡ true) (slice_index_or accounts inverter otherwise).live
+    → All (λ write. list_any (is_due rules inverter write) queue ≡ true)
+    (slice_index_or accounts inverter otherwise).live
 
 -- the queue once these writes of an inverter were taken out
 abbrev pub without_writes : (inverter : ℕ) → List writes.Write → List Due → List Due

@@ -1,12 +1,13 @@
 //! What is known of the level of the fair shares, so that few replies go through the claims.
-ghost use Rattle.std.specs.Prelude.{◌≡◌, ℕ, ◌+◌, ◌<◌, ◌≤◌, ◌^◌, nat_le, List, length, None, IfSome, sum_by, slice_set, slice_index_or};
+ghost use Rattle.std.specs.Prelude.{◌≡◌, ℕ, ◌+◌, ◌<◌, ◌≤◌, ◌^◌, nat_le, List, length};
+ghost use Rattle.std.specs.Prelude.{None, IfSome, sum_by, slice_set, slice_index_or};
 ghost use Rattle.share_policy.specs.declared.claim.Claim.{Claim as Claimed};
 ghost use Rattle.share_policy.specs.Claims.{IsFeasible};
 ghost use Rattle.share_policy.specs.Shares.{share_at, level_of};
 ghost use Rattle.plant_ledger.specs.Known.{IsProbe, IsKnown};
 
 use plant_book::{Claim, Policy};
-use share_policy::{level, reaches, target};
+use share_policy::{level, reaches, target, total_at};
 
 /// A level, and what the fair shares of all claims sum to at it.
 #[derive(Clone, Copy, Debug)]
@@ -151,15 +152,4 @@ impl Known {
             self.made = Some(level(cap, claims));
         }
     }
-}
-
-/// What the fair shares of all claims sum to at a level, in mW.
-fn total_at(level: u64, claims: &[Claim]) -> u64
-    requires { sum_by (share_at level) claims.now < 2 ^ 64 }
-    ensures { result ≡ sum_by (share_at level) claims.now }
-{
-    claims
-        .iter()
-        .map(|claim| target(Policy::Fair, level, claim))
-        .sum()
 }

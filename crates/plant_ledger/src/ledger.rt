@@ -1,5 +1,7 @@
 //! A book, and the account of each inverter.
-ghost use Rattle.std.specs.Prelude.{◌≡◌, ℕ, ◌<◌, ◌≤◌, ◌^◌, nat_le, ◌||◌, ◌⊎◌, if◌then◌else◌, [], ◌∷◌, ◌++◌, length, map, Some, None, IfOk, IfErr, IfSome, OnOk, OnErr, slice_get, slice_set, slice_index_or};
+ghost use Rattle.std.specs.Prelude.{◌≡◌, ℕ, ◌<◌, ◌≤◌, ◌^◌, nat_le, ◌||◌, ◌⊎◌, if◌then◌else◌};
+ghost use Rattle.std.specs.Prelude.{[], ◌∷◌, ◌++◌, length, map, Some, None, IfOk, IfErr, IfSome};
+ghost use Rattle.std.specs.Prelude.{OnOk, OnErr, slice_get, slice_set, slice_index_or};
 ghost use Rattle.plant_book.specs.Site.{inverters, floors, full_at, mw_at};
 ghost use Rattle.plant_book.specs.Caps.{sets_cap, cap_by, cap_of};
 ghost use Rattle.plant_book.specs.Calls.{moment, named};
@@ -15,17 +17,18 @@ ghost use Rattle.plant_ledger.specs.Account.{IsAccount, HasRoom, after_call, cla
 ghost use Rattle.plant_ledger.specs.Ledger.{IsUnit, IsAtLast, AreSums, IsLevel};
 ghost use Rattle.plant_ledger.specs.Plant.{with_one, Rolls, IsFullLife};
 
+mod levels;
+
 use crate::account::Account;
 use crate::lists::{claims_by, first_accounts, units_by};
 use crate::queue::{expire_due, follow_queue};
 use crate::rolling::{RollFault, next_book};
-use crate::sums::{Sums, gather};
+use crate::sums::{Sums, follow, gather};
 use limiter_num::{NoMemory, Rules};
 use plant_book::{
     Book, CALLS_MAX, Call, CapMark, Claim, Entry, MOMENT_MAX, Policy, Reply, Site, Unit, UnitCarry,
 };
 use revert_timers::Expiries;
-use share_policy::level;
 use std::alloc::Global;
 use std::marker::Model;
 use std::mem;
@@ -54,7 +57,8 @@ impl Model for Ledger {
 
     ghost view = { λ l. record { book = l.book; at = l.moment } };
 
-    ghost invariant = { λ l. Keeps l.book l.moment l.accounts.items l.claims.items l.expiries l.sums l.cap l.stopped l.reach };
+    ghost invariant = { λ l.
+        Keeps l.book l.moment l.accounts.items l.claims.items l.expiries l.sums l.cap l.stopped l.reach };
 }
 
 impl Ledger {
@@ -98,7 +102,7 @@ impl Ledger {
             self.moment = now;
             return;
         }
-        let rules = rules_of(&self.book);
+        let rules = self.rules();
         expire_due(
             &mut self.accounts,
             &mut self.expiries,
@@ -121,7 +125,7 @@ impl Ledger {
         requires now { moment entry.call ≡ self.old.at }
         ensures { self.new ≡ record { book = with_one self.old.book entry; at = self.old.at } }
     {
-        let rules = rules_of(&self.book);
+        let rules = self.rules();
         follow_queue(
             &mut self.expiries,
             &self.accounts,
@@ -185,26 +189,12 @@ impl Ledger {
         self.book.start + self.reach
     }
 
-    /// The rules of the site.
-    pub fn rules(&self) -> Rules
-        ensures { result ≡ self.now.book.site.rules }
-    {
-        rules_of(&self.book)
-    }
-
     /// The cap in force, in mW.
     pub fn cap(&self) -> u64
         ensures cap { EachBook self.now.book (λ whole. result ≡ cap_of whole) }
         ensures high { result ≤ 10 ^ 14 }
     {
         self.cap
-    }
-
-    /// The cap of the site, in mW.
-    pub fn site_cap(&self) -> u64
-        ensures { result ≡ self.now.book.site.cap }
-    {
-        site_cap_of(&self.book)
     }
 
     /// The last Cap of the life that was set.
@@ -222,22 +212,6 @@ impl Ledger {
         units_by(alloc, &self.accounts)
     }
 
-    /// The milliwatts of all floors.
-    pub fn floors(&self) -> u64
-        ensures { result ≡ floors self.now.book.site }
-    {
-        let book = &self.book;
-        let site = &book.site;
-        site.floors()
-    }
-
-    /// The policy of the site.
-    pub fn policy(&self) -> Policy
-        ensures { result ≡ self.now.book.site.policy }
-    {
-        policy_of(&self.book)
-    }
-
     /// The moment of the accounts, in ms.
     pub fn now(&self) -> u64
         ensures now { result ≡ self.now.at }
@@ -251,86 +225,6 @@ impl Ledger {
         ensures { EachBook self.now.book (λ whole. result ≡ sums.total_at whole self.now.at) }
     {
         self.sums.total
-    }
-
-    /// The level of the fair shares, in mW.
-    pub fn level(&self) -> u64
-        ensures { EachBook self.now.book (λ whole. result ≡ level_of (cap_of whole) (rule.claims whole)) }
-    {
-        self.sums.level.level(self.cap, &self.claims)
-    }
-
-    /// Whether the level of the fair shares is at least this one, in mW.
-    pub fn reaches(&self, mw: u64) -> bool
-        ensures { EachBook self.now.book
-            (λ whole. result ≡ nat_le mw (level_of (cap_of whole) (rule.claims whole))) }
-    {
-        self.sums.level.reaches(self.cap, &self.claims, mw)
-    }
-
-    /// The level of the fall shares, in mW.
-    pub fn fall_level(&self) -> u64
-        ensures { EachBook self.now.book
-            (λ whole. result ≡ level_of (cap_of whole) (rule.fall_claims whole.site)) }
-    {
-        match self.sums.fall {
-            Some(level) => level,
-            None => level(self.cap(), self.fall_claims().as_slice()),
-        }
-    }
-
-    /// Makes what of the levels the reply to an Ask of the inverter for this raw percentage needs.
-    pub fn make_levels(&mut self, inverter: u8, raw: u16)
-        requires { inverter < inverters self.old.book.site }
-        ensures { self.new ≡ self.old }
-    {
-        if self.policy() == Policy::Fair {
-            let mw = self.limit(inverter, raw);
-            self.learn_level(mw);
-        }
-        if self.total() > self.cap() {
-            self.make_fall_level();
-        }
-    }
-
-    /// Finds whether the level of the fair shares is at least this one, in mW, and makes it where it is lower.
-    fn learn_level(&mut self, mw: u64)
-        ensures { self.new ≡ self.old }
-    {
-        self.sums.level.learn(self.cap, &self.claims, mw);
-    }
-
-    /// Makes the level of the fall shares.
-    fn make_fall_level(&mut self)
-        ensures { self.new ≡ self.old }
-    {
-        let made = self.fall_level();
-        self.sums.fall = Some(made);
-    }
-
-    /// The inverter of this number.
-    pub fn unit(&self, inverter: u8) -> &Unit
-        requires { inverter < inverters self.now.book.site }
-        ensures unit { slice_get self.now.book.site.units inverter ≡ Some result.now }
-        ensures numbers { IsUnit self.now.book.site inverter result.now }
-    {
-        unit_of(&self.book, inverter)
-    }
-
-    /// The milliwatts that a raw percentage of the inverter stands for.
-    pub fn limit(&self, inverter: u8, raw: u16) -> u64
-        requires { inverter < inverters self.now.book.site }
-        ensures { result ≡ mw_at self.now.book.site inverter raw }
-    {
-        self.account(inverter).limit(raw)
-    }
-
-    /// The greatest raw percentage of the inverter.
-    pub fn full(&self, inverter: u8) -> u16
-        requires { inverter < inverters self.now.book.site }
-        ensures { result ≡ full_at self.now.book.site inverter }
-    {
-        self.account(inverter).full()
     }
 
     /// The account of the inverter.
@@ -355,88 +249,6 @@ impl Ledger {
     {
         self.stopped
     }
-}
-
-/// The rules of the book's site.
-fn rules_of(book: &Book) -> Rules
-    ensures { result ≡ book.now.site.rules }
-{
-    let site = &book.site;
-    site.rules
-}
-
-/// The cap of the book's site, in mW.
-fn site_cap_of(book: &Book) -> u64
-    ensures { result ≡ book.now.site.cap }
-{
-    let site = &book.site;
-    site.cap
-}
-
-/// The policy of the book's site.
-fn policy_of(book: &Book) -> Policy
-    ensures { result ≡ book.now.site.policy }
-{
-    let site = &book.site;
-    site.policy
-}
-
-/// The inverter of this number.
-fn unit_of(book: &Book, inverter: u8) -> &Unit
-    requires { inverter < inverters book.now.site }
-    ensures { slice_get book.now.site.units inverter ≡ Some result.now }
-{
-    let site = &book.site;
-    &site.units[usize::from(inverter)]
-}
-
-/// The account of the inverter that one more entry names follows it, and so do its claim and the numbers of all
-/// accounts.
-fn follow(
-    accounts: &mut [Account],
-    claims: &mut [Claim],
-    sums: &mut Sums,
-    rules: &Rules,
-    entry: &Entry,
-)
-    requires few { length accounts.old ≤ 64 }
-    requires claims { claims.old ≡ map claim_by accounts.old }
-    requires sums { AreSums accounts.old sums.old }
-    requires within { IfSome (named entry.now.call) (λ inverter. inverter < length accounts.old) }
-    requires links { (inverter : ℕ) (otherwise : Kept) → named entry.now.call ≡ Some inverter
-        → (slice_index_or accounts.old inverter otherwise).link < 4294967295 }
-    requires room { (inverter : ℕ) (otherwise : Kept) → named entry.now.call ≡ Some inverter
-        → HasRoom entry.now.reply (slice_index_or accounts.old inverter otherwise) }
-    ensures named { (inverter : ℕ) (otherwise : Kept) → named entry.now.call ≡ Some inverter
-        → accounts.new ≡ slice_set accounts.old inverter
-        (after_call rules.now entry.now.call entry.now.reply
-        (slice_index_or accounts.old inverter otherwise)) }
-    ensures unnamed { named entry.now.call ≡ None → accounts.new ≡ accounts.old }
-    ensures claims { claims.new ≡ map claim_by accounts.new }
-    ensures sums { AreSums accounts.new sums.new }
-    ensures level { (cap : ℕ) → IsLevel cap accounts.old sums.old.level
-        → IsLevel cap accounts.new sums.new.level }
-    ensures fall { sums.new.fall ≡ sums.old.fall }
-    ensures set { sums.new.set ≡ sums.old.set }
-{
-    let Some(inverter) = entry.call.inverter() else {
-        return;
-    };
-    let place = usize::from(inverter);
-    let account = &mut accounts[place];
-    let wish = account.wish();
-    let strange = account.is_strange();
-    let reserved = account.reserved();
-    account.follow(rules, entry);
-    sums.total = sums.total - reserved + account.reserved();
-    sums.oldest = sums.oldest.min(account.oldest());
-    if account.wish() == wish && account.is_strange() == strange {
-        return;
-    }
-    let claim = claims[place];
-    let next = account.claim();
-    claims[place] = next;
-    sums.level = sums.level.moved(&claim, &next);
 }
 
 /// The cap in force after one more entry, in mW.

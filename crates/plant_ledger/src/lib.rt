@@ -17,6 +17,7 @@ mod replies;
 mod reserved;
 mod rolling;
 mod shares;
+mod site;
 mod sums;
 mod ticket;
 

@@ -1,5 +1,6 @@
 //! The queue of live writes, by which an expiry looks at no inverter that has nothing due.
-ghost use Rattle.std.specs.Prelude.{◌≡◌, ℕ, ◌≤◌, ◌<◌, length, map, filter, not, Some, None, slice_set, slice_index_or, IfSome};
+ghost use Rattle.std.specs.Prelude.{◌≡◌, ℕ, ◌≤◌, ◌<◌, length, map, filter, not, Some};
+ghost use Rattle.std.specs.Prelude.{None, slice_set, slice_index_or, IfSome};
 ghost use Rattle.std.specs.List.{All};
 ghost use Rattle.limiter_num.specs.declared.rules.Rules.{Rules as Timed};
 ghost use Rattle.limiter_num.specs.Timers as timers;
@@ -124,8 +125,8 @@ fn expire_at(
     sums.total = sums.total - reserved + account.reserved();
 }
 
-/// Drops what is past by a moment in ms of the accounts whose writes stand at the front of the queue. It takes a step for
-/// each write that is past, of which there are at most 2,048.
+/// Drops what is past by a moment in ms of the accounts whose writes stand at the front of the queue. It takes a step
+/// for each write that is past, of which there are at most 2,048.
 pub fn expire_due(
     accounts: &mut [Account],
     expiries: &mut Expiries,

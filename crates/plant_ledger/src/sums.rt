@@ -1,12 +1,15 @@
 //! What the ledger keeps of all accounts together.
-ghost use Rattle.std.specs.Prelude.{◌≡◌, ℕ, ◌≤◌, ◌<◌, List, length, None};
+ghost use Rattle.std.specs.Prelude.{◌≡◌, ℕ, ◌≤◌, ◌<◌, List, length, map, None, Some, IfSome, slice_set, slice_index_or};
 ghost use Rattle.plant_book.specs.Site.{SiteRecord};
+ghost use Rattle.plant_book.specs.Calls.{named};
 ghost use Rattle.plant_ledger.specs.Account.{Account as Kept};
+ghost use Rattle.plant_ledger.specs.Account.{HasRoom, after_call, claim_by};
 ghost use Rattle.plant_ledger.specs.Ledger.{AreSums, IsLevel, IsFallLevel, mark_after};
 
 use crate::account::Account;
 use crate::known::Known;
-use plant_book::{Call, CapMark, Entry, Reply};
+use limiter_num::Rules;
+use plant_book::{Call, CapMark, Claim, Entry, Reply};
 
 /// Numbers of all accounts together, so that no call goes through them.
 #[derive(Clone, Copy, Debug)]
@@ -81,4 +84,53 @@ pub fn gather(accounts: &[Account]) -> Sums
         fall: None,
         set: None,
     }
+}
+
+/// The account of the inverter that one more entry names follows it, and so do its claim and the numbers of all
+/// accounts.
+pub fn follow(
+    accounts: &mut [Account],
+    claims: &mut [Claim],
+    sums: &mut Sums,
+    rules: &Rules,
+    entry: &Entry,
+)
+    requires few { length accounts.old ≤ 64 }
+    requires claims { claims.old ≡ map claim_by accounts.old }
+    requires sums { AreSums accounts.old sums.old }
+    requires within { IfSome (named entry.now.call) (λ inverter. inverter < length accounts.old) }
+    requires links { (inverter : ℕ) (otherwise : Kept) → named entry.now.call ≡ Some inverter
+        → (slice_index_or accounts.old inverter otherwise).link < 4294967295 }
+    requires room { (inverter : ℕ) (otherwise : Kept) → named entry.now.call ≡ Some inverter
+        → HasRoom entry.now.reply (slice_index_or accounts.old inverter otherwise) }
+    ensures named { (inverter : ℕ) (otherwise : Kept) → named entry.now.call ≡ Some inverter
+        → accounts.new ≡ slice_set accounts.old inverter
+        (after_call rules.now entry.now.call entry.now.reply
+        (slice_index_or accounts.old inverter otherwise)) }
+    ensures unnamed { named entry.now.call ≡ None → accounts.new ≡ accounts.old }
+    ensures claims { claims.new ≡ map claim_by accounts.new }
+    ensures sums { AreSums accounts.new sums.new }
+    ensures level { (cap : ℕ) → IsLevel cap accounts.old sums.old.level
+        → IsLevel cap accounts.new sums.new.level }
+    ensures fall { sums.new.fall ≡ sums.old.fall }
+    ensures set { sums.new.set ≡ sums.old.set }
+{
+    let Some(inverter) = entry.call.inverter() else {
+        return;
+    };
+    let place = usize::from(inverter);
+    let account = &mut accounts[place];
+    let wish = account.wish();
+    let strange = account.is_strange();
+    let reserved = account.reserved();
+    account.follow(rules, entry);
+    sums.total = sums.total - reserved + account.reserved();
+    sums.oldest = sums.oldest.min(account.oldest());
+    if account.wish() == wish && account.is_strange() == strange {
+        return;
+    }
+    let claim = claims[place];
+    let next = account.claim();
+    claims[place] = next;
+    sums.level = sums.level.moved(&claim, &next);
 }

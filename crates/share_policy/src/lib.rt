@@ -1,8 +1,8 @@
 //! Shares the watts under a cap: the level up to which every claim is served, and the target of each claim at it.
 //!
-//! The layer above relies on one contract: `level` is the greatest level from 0 to the cap at which the targets of all
-//! claims sum to at most the cap. So the targets are max-min fair. `reaches` tells with less work whether it is at least
-//! some level.
+//! The layer above relies on one contract: `level` is the greatest level from 0 to the cap at which the targets of
+//! all claims sum to at most the cap. So the targets are max-min fair. `reaches` tells with less work whether it is at
+//! least some level.
 #![tactic(auto)]
 
 mod claim;

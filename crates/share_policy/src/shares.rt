@@ -15,8 +15,8 @@ const GUESSES: usize = 8;
 const HALVINGS: usize = 64;
 
 /// The level of the fair shares: the greatest from 0 to the cap at which the targets of all claims sum to at most the
-/// cap. Both are in mW. It goes through the claims at most 80 times, whatever they are: two times for each of 8 guesses,
-/// and once for each of 64 halvings.
+/// cap. Both are in mW. It goes through the claims at most 80 times, whatever they are: two times for each of 8
+/// guesses, and once for each of 64 halvings.
 pub fn level(cap: u64, claims: &[Claim]) -> u64
     requires { IsFeasible cap claims.now }
     ensures level { result ≡ level_of cap claims.now }

@@ -1,9 +1,11 @@
 -- The greatest raw percentage of writes, and writes in order.
-use Rattle.std.proofs.Common.{◌≡◌, ℕ, suc, max, ◌+◌, ◌-◌, ◌<◌, ◌≤◌, Bool, true, false, ◌||◌, List, [], ◌∷◌, ◌++◌, length, get_or, take, drop, map, refl, ap, sym, ◌∙◌, arith, inl, inr}
+use Rattle.std.proofs.Common.{◌≡◌, ℕ, suc, max, min, ◌^◌, ◌+◌, ◌-◌, ◌<◌, ◌≤◌, Bool, true, false, ◌||◌, List, [], ◌∷◌, ◌++◌, length, length-append, get_or, take, drop, map, refl, ap, sym, ◌∙◌, arith, inl, inr}
 use Rattle.std.specs.Prelude.{filter, fold}
-use Rattle.std.specs.List.{All, list_any}
+use Rattle.std.specs.List.{All, Any, list_any}
+use Rattle.std.proofs.lemmas.List.Elements.{All-push, All-weaker}
+use Rattle.std.proofs.lemmas.List.Quantifiers.{Any-push}
 use Rattle.std.proofs.lemmas.Bool.{cases_Bool, cases_lt, lt-ltb, le-ltb}
-use Rattle.std.proofs.lemmas.List.{get_or_default, take_more}
+use Rattle.std.proofs.lemmas.List.{get_or_default, take_more, get_or_append_left}
 use Rattle.std.proofs.lemmas.List.Sorted.{IsNonDecreasingBy-push, IsNonDecreasingBy-drop}
 use Rattle.std.proofs.lemmas.List.Kept.{IsNonDecreasingBy-filter}
 use Rattle.limiter_num.specs.declared.rating.Rating.{Rating}
@@ -12,7 +14,7 @@ use Rattle.limiter_num.specs.Rating.{mw}
 use Rattle.limiter_num.specs.Timers.{last_moment}
 use Rattle.plant_book.specs.declared.call.Write as writes
 use Rattle.plant_book.proofs.Maxima.{fold_max-push}
-use Rattle.uncertain_writes.specs.Live.{is_past, most_raw, AreInOrder}
+use Rattle.uncertain_writes.specs.Live.{is_past, most_raw, AreInOrder, IsOldest}
 use Rattle.uncertain_writes.proofs.Lists.{fold_max-from, mw-max, mw-zero}
 
 -- the milliwatts of the greatest raw percentage are the greatest milliwatts
@@ -65,6 +67,13 @@ module _ (its : List writes.Write) (first : writes.Write) (order : AreInOrder it
   pub first_oldest : All (λ write. first.at ≤ write.at) its
   first_oldest = λ k d h. first_least k d h
 
+  pub oldest_first : 0 < length its → IsOldest its first.at
+  oldest_first some = record {
+    from = first_oldest;
+    one = λ h. (0, first, some, sym is, refl);
+    none = λ empty. absurd (omega (arith, some, ap length empty));
+  }
+
   -- and is past if one is
   pub past_by_first : (rules : Rules) (now : ℕ) → 0 < length its → is_past rules now first ≡ list_any (is_past rules now) its
   past_by_first rules now some = elim (cases_Bool (is_past rules now first)) [
@@ -100,3 +109,22 @@ order-filter p its left is order = rw is (IsNonDecreasingBy-filter (λ (w : writ
 
 pub order-drop : (its left : List writes.Write) → left ≡ drop 1 its → AreInOrder its → AreInOrder left
 order-drop its left is order = rw is (IsNonDecreasingBy-drop (λ (w : writes.Write). w.at) 1 its order)
+
+-- with one more write behind them, the oldest is the older of it and the oldest before
+pub oldest-push : (its : List writes.Write) (write : writes.Write) (old new : ℕ) → write.at < 2 ^ 64 → new ≡ min old write.at → IsOldest its old → IsOldest (its ++ write ∷ []) new
+oldest-push its write old new fits least is = record {
+  from = All-push (λ (w : writes.Write). new ≤ w.at) its write (All-weaker (λ (w : writes.Write). old ≤ w.at) (λ (w : writes.Write). new ≤ w.at) (λ w le. omega (arith, le, least)) its is.from) (omega (arith, least));
+  one = λ some. elim (cases_lt old write.at) [
+    | inl lt ↦ stays (is.one (nonempty its is.none lt)) lt
+    | inr le ↦ Any-push (λ (w : writes.Write). w.at ≡ new) its write (omega (arith, least, le))
+  ];
+  none = λ empty. absurd (omega (arith, length-append its (write ∷ []), ap length empty));
+}
+  where
+    nonempty : (xs : List writes.Write) → (xs ≡ [] → old ≡ 2 ^ 64 - 1) → old < write.at → 0 < length xs
+    nonempty [] none lt = absurd (omega (arith, none refl, lt, fits))
+    nonempty (x ∷ xs) none lt = omega arith
+
+    stays : Any (λ w. w.at ≡ old) its → old < write.at → Any (λ w. w.at ≡ new) (its ++ write ∷ [])
+    stays (k, w, within, at, is_at) lt =
+        (k, w, omega (arith, within, length-append its (write ∷ [])), get_or_append_left its (write ∷ []) w k within ∙ at, omega (arith, is_at, least, lt))

@@ -1,5 +1,7 @@
 -- What each call makes of the list of an inverter's live writes.
-use Rattle.std.specs.Prelude.{◌≡◌, ℕ, ◌^◌, ◌≤◌, Bool, IsTrue, not, ◌&&◌, ◌==◌, nat_lt, List, length, drop, filter, fold, map, max}
+use Rattle.std.specs.Prelude.{◌≡◌, ℕ, ◌-◌, ◌^◌, ◌<◌, ◌≤◌, Bool, IsTrue, not, ◌&&◌, ◌==◌}
+use Rattle.std.specs.Prelude.{nat_lt, List, [], length, drop, filter, fold, map, max}
+use Rattle.std.specs.List.{All, Any}
 use Rattle.std.specs.List.Sorted.{IsNonDecreasingBy}
 use Rattle.limiter_num.specs.declared.rules.Rules.{Rules}
 use Rattle.limiter_num.specs.Timers.{last_moment}
@@ -36,6 +38,12 @@ most_raw its_writes = fold max 0 (map (λ write. write.raw) its_writes)
 -- no write is older than one before it
 abbrev pub AreInOrder : List writes.Write → Type 0
 AreInOrder its_writes = IsNonDecreasingBy (λ write. write.at) its_writes
+
+-- none of the writes was granted before this moment and one of them at it; of none it is the greatest number of a word
+pub record IsOldest (its_writes : List writes.Write) (moment : ℕ) : Type 0 where
+  pub from : All (λ write. moment ≤ write.at) its_writes
+  pub one : 0 < length its_writes → Any (λ write. write.at ≡ moment) its_writes
+  pub none : its_writes ≡ [] → moment ≡ 2 ^ 64 - 1
 
 -- what places keep to: the writes behind those that are gone are few
 pub record AreFew (kept : List writes.Write) (gone : ℕ) : Type 0 where

@@ -1,13 +1,16 @@
 //! The list of live writes.
-ghost use Rattle.std.specs.Prelude.{◌≡◌, ◌*◌, ◌^◌, ◌≤◌, ◌<◌, ◌↔◌, IsTrue, nat_le, [], ◌∷◌, ◌++◌, Some, length, drop, filter, fold, map, max, IsOk, OnOk, OnErr, IfErr};
-ghost use Rattle.std.specs.List.{All, list_any};
+ghost use Rattle.std.specs.Prelude.{◌≡◌, ◌-◌, ◌*◌, ◌^◌, ◌≤◌, ◌<◌, ◌↔◌, IsTrue, nat_le, [], ◌∷◌, ◌++◌, Some};
+ghost use Rattle.std.specs.Prelude.{length, drop, filter, fold, map, max, IsOk, OnOk, OnErr, IfErr};
+ghost use Rattle.std.specs.List.{All, Any, list_any};
 ghost use Rattle.limiter_num.specs.Rating.{mw};
 ghost use Rattle.plant_book.specs.declared.call.Write.{Write as Written};
 ghost use Rattle.plant_book.specs.Writes.{frees};
-ghost use Rattle.uncertain_writes.specs.Live.{live_max, moment_max, is_past, has_numbers, has_raw, without, most_raw, AreInOrder};
+ghost use Rattle.uncertain_writes.specs.Live.{live_max, moment_max, is_past, has_numbers};
+ghost use Rattle.uncertain_writes.specs.Live.{has_raw, without, most_raw, AreInOrder};
 
 use crate::kept::Kept;
 use crate::places::{Places, holds};
+use crate::rising::{is_first_past_alone, oldest, stays_rising};
 use arrayvec::ArrayVec;
 use limiter_num::{Rating, Rules};
 use plant_book::{LIVE_MAX, Read, Write};
@@ -190,25 +193,13 @@ impl Live {
         writes(self.writes.kept())
     }
 
-    /// A moment in ms before which no write of the list was granted.
+    /// The moment in ms of the oldest write, or `u64::MAX` where there is none.
     pub fn oldest(&self) -> u64
-        ensures { All (λ write. result ≤ write.at) self.now }
+        ensures from { All (λ write. result ≤ write.at) self.now }
+        ensures one { 0 < length self.now → Any (λ write. write.at ≡ result) self.now }
+        ensures none { self.now ≡ [] → result ≡ 2 ^ 64 - 1 }
     {
         oldest(self.writes.kept(), self.rising)
-    }
-}
-
-/// Whether it is known that no write is older than one before it, with one of this moment in ms behind them.
-fn stays_rising(writes: &[Kept], rising: bool, at: u64) -> bool
-    requires { IsTrue rising → AreInOrder writes.now }
-    ensures { IsTrue result → (write : Written) → write.at ≡ at → AreInOrder (writes.now ++ write ∷ []) }
-{
-    if !rising {
-        return false;
-    }
-    match writes {
-        [.., last] => last.at() <= at,
-        [] => true,
     }
 }
 
@@ -221,30 +212,6 @@ fn most_of(writes: &[Kept]) -> u16
         most = most.max(kept.raw());
     }
     most
-}
-
-/// Whether the first write is past, and no other is.
-fn is_first_past_alone(writes: &[Kept], rising: bool, rules: &Rules, now: u64) -> bool
-    requires { IsTrue rising → AreInOrder writes.now }
-    ensures left { IsTrue result → without (is_past rules.now now) writes.now ≡ drop 1 writes.now }
-    ensures one { IsTrue result → length (filter (is_past rules.now now) writes.now) ≡ 1 }
-    ensures some { IsTrue result → 0 < length writes.now }
-{
-    match writes {
-        [first, rest @ ..] => first.is_past(rules, now) && !has_past(rest, rising, rules, now),
-        [] => false,
-    }
-}
-
-/// Whether a write is past. Where they rise, it is the first, if one is.
-fn has_past(writes: &[Kept], rising: bool, rules: &Rules, now: u64) -> bool
-    requires { IsTrue rising → AreInOrder writes.now }
-    ensures { result ≡ list_any (is_past rules.now now) writes.now }
-{
-    match writes {
-        [first, ..] if rising => first.is_past(rules, now),
-        _ => writes.iter().any(|kept| kept.is_past(rules, now)),
-    }
 }
 
 fn freed(writes: &[Kept], rules: &Rules, read: &Read, raw: u16) -> u8
@@ -302,26 +269,4 @@ fn writes(kept: &[Kept]) -> ArrayVec<Write, LIVE_MAX>
         writes.push(one.write());
     }
     writes
-}
-
-/// A moment in ms before which none of the writes was granted: where they rise, that of the first.
-fn oldest(writes: &[Kept], rising: bool) -> u64
-    requires { IsTrue rising → AreInOrder writes.now }
-    ensures { All (λ write. result ≤ write.at) writes.now }
-{
-    match writes {
-        [first, ..] if rising => first.at(),
-        _ => least_moment(writes),
-    }
-}
-
-/// The same of writes in any order: no write is below it.
-fn least_moment(writes: &[Kept]) -> u64
-    ensures { All (λ write. result ≤ write.at) writes.now }
-{
-    let mut oldest = u64::MAX;
-    for write in writes {
-        oldest = oldest.min(write.at());
-    }
-    oldest
 }

@@ -1,4 +1,4 @@
-use Rattle.std.proofs.Common.{◌≡◌, ℕ, List, ◌∷◌, sym, subst, ◌≤◌, ◌∙◌, arith}
+use Rattle.std.proofs.Common.{◌≡◌, List, ◌∷◌, sym, subst, ◌≤◌, ◌∙◌, arith}
 use Rattle.std.specs.List.{All}
 use Rattle.revert_timers.specs.declared.expiries.Due.{Due}
 use Rattle.plant_ledger.specs.Queue.{HavePlaces}

@@ -1,11 +1,10 @@
-use Rattle.std.proofs.Common.{◌≡◌, ◌⊎◌, ◌+◌, ◌≤◌, ℕ, Option, List, map, take, drop, ◌++◌, length, refl, sym, subst, ap, ◌∙◌, arith, inl, inr}
-use Rattle.std.proofs.lemmas.List.{length-map}
+use Rattle.std.proofs.Common.{◌≡◌, ◌⊎◌, ◌+◌, ◌≤◌, ℕ, Option, List, map, length, sym, subst, ap, ◌∙◌, arith, inl, inr}
 use Rattle.limiter_num.specs.Timers.{reach}
 use Rattle.limiter_num.specs.declared.rules.Rules.{Rules}
 use Rattle.share_policy.specs.declared.claim.Claim.{Claim}
 use Rattle.std.proofs.lemmas.Bool.{cases_lt}
 use Rattle.plant_ledger.specs.Account.{Account, claim_by}
-use Rattle.plant_ledger.specs.Ledger.{LedgerRecord, AreSums, IsFallLevel, Keeps, account_at}
+use Rattle.plant_ledger.specs.Ledger.{LedgerRecord, IsFallLevel, Keeps, account_at}
 use Rattle.plant_ledger.specs.Queue.{HavePlaces}
 use Rattle.plant_ledger.specs.Known.{IsKnown}
 use Rattle.plant_ledger.specs.declared.known.Known.{Known}
@@ -50,7 +49,7 @@ invariant_of-self-2 c =
     let sums = c.expire_due.new.sums in
     let its = c.expire_due.ensures in
     let oldest = c.saturating_sub-self-inside.result in
-    let same_rules : c.rules_of-rules.result ≡ rules = c.rules_of-rules.ensures in
+    let same_rules : c.rules-rules.result ≡ rules = c.rules-rules.ensures ∙ ap (λ (l : LedgerRecord). l.book.site.rules) (sym c.self.view_is) in
     let le : inside.moment ≤ now = omega (arith, c.requires.later, ap (λ (l : LedgerRecord). l.at) c.self.view_is) in
     let reaches : inside.reach ≡ reach rules = kept.reach_is in
     let count : length fresh ≡ inside.accounts.len = omega (arith, c.expire_due.auto.accounts, c.deref_mut.ensures.len) in
@@ -83,5 +82,5 @@ pub expire_due-requires-clause-queued : goal.expire_due-requires-clause-queued
 expire_due-requires-clause-queued c =
     let inside = c.self.inside in
     let places = have_places inside.book.site.rules inside.moment inside.expiries inside.accounts.items c.self.invariant.queued in
-    subst (λ (all : List Account). HavePlaces c.rules_of-rules.result inside.expiries all) (sym c.deref_mut.ensures.value)
-    (subst (λ (r : Rules). HavePlaces r inside.expiries inside.accounts.items) (sym c.rules_of-rules.ensures) places)
+    subst (λ (all : List Account). HavePlaces c.rules-rules.result inside.expiries all) (sym c.deref_mut.ensures.value)
+    (subst (λ (r : Rules). HavePlaces r inside.expiries inside.accounts.items) (ap (λ (l : LedgerRecord). l.book.site.rules) c.self.view_is ∙ sym c.rules-rules.ensures) places)

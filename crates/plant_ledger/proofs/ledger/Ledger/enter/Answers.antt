@@ -44,13 +44,14 @@ follow-requires-clause-room c = λ inverter otherwise is.
 pub invariant_of-self : goal.invariant_of-self
 invariant_of-self c =
     let inside = c.self.inside in
+    let same_rules : c.rules-rules.result ≡ c.self.inside.book.site.rules = c.rules-rules.ensures ∙ ap (λ (l : LedgerRecord). l.book.site.rules) (sym c.self.view_is) in
     let may : MayFollow inside.book inside.moment c.args.entry =
     subst (λ (ledger : LedgerRecord). MayFollow ledger.book ledger.at c.args.entry) (sym c.self.view_is)
     (record { calls = c.requires.life; next = c.requires.next; answer = c.requires.answer; at_once = c.requires.now }) in
     let old : List Account = inside.accounts.items in
     let new = c.follow.new.accounts in
     let follow : (before : List Entry) → Follow (book_behind before inside.book) c.args.entry old new = λ before. record {
-      follows = λ inverter otherwise is. rw (c.deref_mut.ensures.value, c.rules_of-rules.ensures) at (c.follow.ensures.named inverter otherwise is);
+      follows = λ inverter otherwise is. rw (c.deref_mut.ensures.value, same_rules) at (c.follow.ensures.named inverter otherwise is);
       stays = λ is. c.follow.ensures.unnamed is ∙ c.deref_mut.ensures.value;
     } in
     let len : length new ≡ inside.accounts.len = omega (arith, c.follow.auto.accounts, c.deref_mut.ensures.len) in
@@ -85,7 +86,7 @@ invariant_of-self c =
       set = mark;
       queued = queued_entered inside.book.site.rules inside.moment c.args.entry old new inside.expiries c.follow_queue.new.expiries count
           (follow c.self.invariant.numbers.of_life.before).follows (follow c.self.invariant.numbers.of_life.before).stays
-          (λ inverter otherwise is. rw (c.deref.ensures.value, c.rules_of-rules.ensures) at (moved.follows inverter otherwise is)) moved.stays
+          (λ inverter otherwise is. rw (c.deref.ensures.value, same_rules) at (moved.follows inverter otherwise is)) moved.stays
           (λ inverter is. omega (arith, subst (λ (o : Option ℕ). IfSome o (λ i. i < inverters inside.book.site)) is its_enter.next.of_site, kept.numbers.count))
           (λ inverter otherwise write is grants. next_left (book_behind before inside.book) c.args.entry inside.moment old inside.cap inside.stopped (kept.numbers.each before behind)
           its_enter inverter otherwise is write grants)
@@ -96,6 +97,7 @@ invariant_of-self c =
 pub follow_queue-requires-clause-room : goal.follow_queue-requires-clause-room
 follow_queue-requires-clause-room c = λ inverter write is grants.
     let inside = c.self.inside in
+    let same_rules : c.rules-rules.result ≡ c.self.inside.book.site.rules = c.rules-rules.ensures ∙ ap (λ (l : LedgerRecord). l.book.site.rules) (sym c.self.view_is) in
     let rules = inside.book.site.rules in
     let kept = c.self.invariant in
     let may : MayFollow inside.book inside.moment c.args.entry =
@@ -118,5 +120,5 @@ follow_queue-requires-clause-room c = λ inverter write is grants.
     let latest = subst (λ (n : ℕ). All (λ due. due.last ≤ last_moment rules n) inside.expiries) (sym next.at) kept.queued.in_time in (
       omega (arith, next.at, ledger.high),
       few,
-      subst (λ (r : Rules). All (λ due. due.last ≤ last_moment r write.at) inside.expiries) (sym c.rules_of-rules.ensures) latest,
+      subst (λ (r : Rules). All (λ due. due.last ≤ last_moment r write.at) inside.expiries) (sym same_rules) latest,
     )

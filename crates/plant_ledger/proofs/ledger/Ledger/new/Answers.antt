@@ -1,4 +1,4 @@
-use Rattle.std.proofs.Common.{◌≡◌, ℕ, List, [], None, sym, subst, ◌∙◌, ap, map, false}
+use Rattle.std.proofs.Common.{◌≡◌, List, [], None, sym, subst, ◌∙◌, ap, map, false}
 use Rattle.limiter_num.specs.Timers.{reach}
 use Rattle.plant_book.specs.Site.{SiteRecord}
 use Rattle.plant_book.specs.Part.{PartRecord}

@@ -1,9 +1,10 @@
-use Rattle.std.proofs.Common.{subst}
-use Rattle.plant_ledger.specs.Ledger.{LedgerRecord, IsUnit}
+use Rattle.std.proofs.Common.{◌≡◌, Some, subst}
+use Rattle.std.specs.Prelude.{slice_get}
+use Rattle.plant_book.specs.Site.{SiteRecord}
 use Rattle.plant_ledger.proofs.Accounts.{numbers_of}
 use Rattle.plant_ledger.proofs.ledger.Ledger.unit.Goals as goal
 
 pub returns-clause-numbers : goal.returns-clause-numbers
 returns-clause-numbers c =
-    subst (λ (ledger : LedgerRecord). IsUnit ledger.book.site c.args.inverter c.unit_of.result.now) c.self.view_is
-    (numbers_of c.self.inside.book.site c.args.inverter c.unit_of.result.now c.unit_of.ensures)
+    numbers_of c.args.self.now.book.site c.args.inverter c.unit_of.result.now
+    (subst (λ (site : SiteRecord). slice_get site.units c.args.inverter ≡ Some c.unit_of.result.now) c.site.ensures.site c.unit_of.ensures)

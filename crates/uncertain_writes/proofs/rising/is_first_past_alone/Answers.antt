@@ -5,7 +5,7 @@ use Rattle.std.proofs.lemmas.Bool.{cases_Bool}
 use Rattle.std.proofs.lemmas.List.{take_all, length-drop}
 use Rattle.uncertain_writes.specs.Live.{is_past, without}
 use Rattle.uncertain_writes.proofs.Lists.{first_alone}
-use Rattle.uncertain_writes.proofs.live.is_first_past_alone.Goals as goal
+use Rattle.uncertain_writes.proofs.rising.is_first_past_alone.Goals as goal
 
 none_behind : (found : Bool) → IsTrue (not found) → found ≡ false
 none_behind found alone =

@@ -1,6 +1,6 @@
 use Rattle.std.proofs.Common.{arith, ◌∙◌}
 use Rattle.uncertain_writes.proofs.Order.{past_by_first}
-use Rattle.uncertain_writes.proofs.live.has_past.Goals as goal
+use Rattle.uncertain_writes.proofs.rising.has_past.Goals as goal
 
 pub returns-in-len1-up : goal.returns-in-len1-up
 returns-in-len1-up c =

@@ -8,7 +8,7 @@ use Rattle.plant_ledger.specs.Account.{Account, claim_by}
 use Rattle.plant_ledger.specs.Known.{IsKnown}
 use Rattle.plant_ledger.proofs.Following.{unit_stays}
 use Rattle.plant_ledger.proofs.Running.{total_low, level_next}
-use Rattle.plant_ledger.proofs.ledger.follow.Goals as goal
+use Rattle.plant_ledger.proofs.sums.follow.Goals as goal
 
 pub overflow_add-sums : goal.overflow_add-sums
 overflow_add-sums c = omega (arith, c.reserved.ensures.below, c.requires.sums.total, total_low c.args.accounts.now c.requires.few c.requires.sums.each)

@@ -1,7 +1,7 @@
 use Rattle.std.proofs.Common.{arith}
 use Rattle.std.proofs.lemmas.Bool.{leb-true}
 use Rattle.uncertain_writes.proofs.Order.{order-push}
-use Rattle.uncertain_writes.proofs.live.stays_rising.Goals as goal
+use Rattle.uncertain_writes.proofs.rising.stays_rising.Goals as goal
 
 pub returns-in-len1-up : goal.returns-in-len1-up
 returns-in-len1-up c = λ below write is.
