@@ -158,4 +158,5 @@ LinesTaken rows inverters start taken =
 
 -- the points of an inverter fit their 16 bits
 abbrev pub AreFactors : ℕ → ℤ → ℤ → Type 0
-AreFactors wmax wsf psf = (wmax ≤ 65535) × (negsuc 32767 ≤ℤ wsf) × (wsf ≤ℤ pos 32767) × (negsuc 32767 ≤ℤ psf) × (psf ≤ℤ pos 32767)
+AreFactors wmax wsf psf =
+    (wmax ≤ 65535) × (negsuc 32767 ≤ℤ wsf) × (wsf ≤ℤ pos 32767) × (negsuc 32767 ≤ℤ psf) × (psf ≤ℤ pos 32767)

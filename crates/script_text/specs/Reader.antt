@@ -33,15 +33,18 @@ with_lines script more = record { site = script.site; start = script.start; line
 pub record LineRead (old : Lines) (line : Line) (new : Lines) : Type 0 where
   pub shorter : bytes_ahead new < bytes_ahead old
   pub can_go_on : CanGoOn new
-  pub goes_on : (bytes : List ℕ) (script : ScriptRecord) → HasRead bytes script old → HasRead bytes (with_lines script (line ∷ [])) new
+  pub goes_on : (bytes : List ℕ) (script : ScriptRecord) → HasRead bytes script old
+      → HasRead bytes (with_lines script (line ∷ [])) new
 
 -- why there is no next line: the first bad line
 abbrev pub IsBadFrom : Lines → ScriptFault → Type 0
-IsBadFrom lines fault = (bytes : List ℕ) (script : ScriptRecord) → HasRead bytes script lines → IsBadLine fault bytes
+IsBadFrom lines fault =
+    (bytes : List ℕ) (script : ScriptRecord) → HasRead bytes script lines → IsBadLine fault bytes
 
 -- why there is no script of these lines, which are taken
 abbrev pub FaultExplained : Lines → ScriptFault → Type 0
-FaultExplained lines fault = (bytes : List ℕ) (script : ScriptRecord) → HasRead bytes script lines → Explains fault bytes
+FaultExplained lines fault =
+    (bytes : List ℕ) (script : ScriptRecord) → HasRead bytes script lines → Explains fault bytes
 
 -- the lines that are left are those of a script
 abbrev pub AreLast : Lines → Type 0

@@ -65,7 +65,8 @@ inverter_at table = record { port = port_at table; points = points_at table }
 
 -- the sum of the floors in milliwatts, up to one more inverter; the first fault stays
 abbrev pub AddsFloor : Result ℕ SiteFault → Result unit.Unit SiteFault → Result ℕ SiteFault → Type 0
-AddsFloor (Ok sum) (Ok unit) result = (result ≡ Ok (sum + mw unit.rating unit.floor)) × (mw unit.rating unit.floor ≤ 65535 * 10 ^ 12)
+AddsFloor (Ok sum) (Ok unit) result =
+    (result ≡ Ok (sum + mw unit.rating unit.floor)) × (mw unit.rating unit.floor ≤ 65535 * 10 ^ 12)
 AddsFloor (Ok sum) (Err fault) result = result ≡ Err fault
 AddsFloor (Err fault) unit result = result ≡ Err fault
 
@@ -81,11 +82,13 @@ JudgesInverters tables (Ok sum) =
     (first_fault (each inverter_checks tables) ≡ None) × (first_fault (each unit_checks (map points_at tables)) ≡ None)
     × AreFloored tables sum
 JudgesInverters tables (Err fault) =
-    option_or (first_fault (each inverter_checks tables)) (first_fault (each unit_checks (map points_at tables))) ≡ Some fault
+    option_or (first_fault (each inverter_checks tables)) (first_fault (each unit_checks (map points_at tables)))
+    ≡ Some fault
 
 -- the inverters of these tables, or their first fault
 abbrev pub ReadsInverters : List Members → Result (Vec inverter.Inverter Global) SiteError → Type 0
-ReadsInverters tables (Ok inverters) = (first_fault (each inverter_checks tables) ≡ None) × (inverters.items ≡ map inverter_at tables)
+ReadsInverters tables (Ok inverters) =
+    (first_fault (each inverter_checks tables) ≡ None) × (inverters.items ≡ map inverter_at tables)
     × All (λ inverter. inverter.port.base ≤ base_max) inverters.items
 ReadsInverters tables (Err error) = Tells (first_fault (each inverter_checks tables)) error
 

@@ -83,8 +83,10 @@ pub record IsSiteFile (bytes : List ℕ) (file : SiteFileRecord) : Type 0 where
 -- their table, or of the file that the table says where it has none.
 pub data IsRefused (bytes : List ℕ) : SiteFault → Type 0 where
   no_text : (IsUtf8 bytes → parse_document bytes ≡ None) → IsRefused bytes NotToml
-  bad_table : {fault : SiteFault} (table : Members) → IsText bytes table → table_fault table ≡ Some fault → IsRefused bytes fault
-  bad_file : {fault : SiteFault} (file : SiteFileRecord) → Says bytes file → first_fault (file_checks file) ≡ Some fault → IsRefused bytes fault
+  bad_table : {fault : SiteFault} (table : Members) → IsText bytes table → table_fault table ≡ Some fault
+      → IsRefused bytes fault
+  bad_file : {fault : SiteFault} (file : SiteFileRecord) → Says bytes file → first_fault (file_checks file) ≡ Some fault
+      → IsRefused bytes fault
 
 -- The first fault of a table, or of the file that it says where it has none.
 pub data IsFaultOf (table : Members) : SiteFault → Type 0 where

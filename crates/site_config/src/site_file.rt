@@ -44,12 +44,20 @@ impl Model for SiteFile {
 
     ghost Value = { SiteFileRecord };
 
-    ghost view = { λ f. record { site = f.site; ports = f.ports.items; renew = f.renew; pause = f.pause; wait = f.wait } };
+    ghost view = { λ f. record {
+      site = f.site;
+      ports = f.ports.items;
+      renew = f.renew;
+      pause = f.pause;
+      wait = f.wait;
+    } };
 }
 
 /// Refuses a time after which limits would be written anew too often.
 fn check_renew(rules: &Rules, renew: u32) -> Result<(), SiteFault>
-    ensures { MatchResult result (λ _. renew_fault rules.now renew ≡ None) (λ fault. renew_fault rules.now renew ≡ Some fault) }
+    ensures { MatchResult result
+        (λ _. renew_fault rules.now renew ≡ None)
+        (λ fault. renew_fault rules.now renew ≡ Some fault) }
 {
     let least = rules.reach().div_ceil(RENEWALS_MAX);
     if u64::from(renew) < least {
@@ -146,8 +154,8 @@ fn read_table(alloc: Global, bytes: &[u8]) -> Result<Table, SiteError>
 
 /// Reads the bytes of a site file, of which there are at most `SITE_BYTES_MAX`.
 ///
-/// They are TOML in UTF-8. `NoMemory` comes where memory ran out as the text was parsed, whose faults aren't known then,
-/// and else only where nothing of it is at fault (`site_of_table`).
+/// They are TOML in UTF-8. `NoMemory` comes where memory ran out as the text was parsed, whose faults aren't known
+/// then, and else only where nothing of it is at fault (`site_of_table`).
 pub fn site_of(alloc: Global, bytes: &[u8]) -> Result<SiteFile, SiteError>
     requires { length bytes.now ≤ SITE_BYTES_MAX }
     ensures file { IfOk result (IsSiteFile bytes.now) }
