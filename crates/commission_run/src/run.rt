@@ -32,8 +32,8 @@ use world_traits::{Dialer, Sink, send_whole};
 pub fn commission<N: Dialer, O: Sink>(job: Job, dialer: &mut N, out: &mut O) -> Result<(), Stop>
     requires { job.port.base ≤ 65514 }
 
-    // A failed dial, send, receive or write is answered exactly where one failed. After a write that failed nothing more
-    // is written.
+    // A failed dial, send, receive or write is answered exactly where one failed. After a write that failed nothing
+    // more is written.
     ensures dialer_faults { HasCause (N.faults dialer.old) (N.faults dialer.new) (at_dialer result) }
     ensures output_faults { HasCause (O.faults out.old) (O.faults out.new) (at_output result) }
     ensures stops { O.faults out.old ≡ 0 → O.late out.new ≡ O.late out.old }

@@ -20,8 +20,8 @@ abbrev pub wanted_pdu : Next → Option (List ℕ)
 wanted_pdu (Read start count) = Some (read_pdu start count)
 wanted_pdu Done = None
 
--- The reads of the walk; 46 registers from the start of the 702; 55 from the base; the write of the floor, which reverts to the
--- floor; the read-back of the eight registers of the limit.
+-- The reads of the walk; 46 registers from the start of the 702; 55 from the base; the write of the floor, which
+-- reverts to the floor; the read-back of the eight registers of the limit.
 abbrev pub asked_pdu : Target → Stage → Option (List ℕ)
 asked_pdu target (Discovering walk) = wanted_pdu (next_read walk.place)
 asked_pdu target (ReadingCapacity start base) = Some (read_pdu start 46)

@@ -1,5 +1,5 @@
--- What has passed over the link when a commissioning stands at a stage: which requests were asked, in which order, and what was
--- replied to each.
+-- What has passed over the link when a commissioning stands at a stage: which requests were asked, in which order,
+-- and what was replied to each.
 use Rattle.std.specs.Prelude.{◌≡◌, ℕ, ℤ, ◌+◌, List, [], ◌∷◌, ◌++◌, length, map, Option, Some, IsSome}
 use Rattle.modbus_pdu.specs.declared.pdu.Reply.{Reply}
 use Rattle.modbus_pdu.specs.declared.pdu.Reply.TheVariants as reply
@@ -27,9 +27,10 @@ use Rattle.commissioning.specs.Runs.{Exchange, standing_after, exchanges}
 abbrev pub exchange_behind : Target → List Exchange → List ℕ → Frame → Exchange
 exchange_behind target before pdu came = record { request = request_frame target (length before + 1) pdu; reply = came }
 
--- All are those before and one more: this PDU was asked next, and this reply came to it, with the number of the request and from
--- the unit of the port.
-pub record Follows (target : Target) (before : List Exchange) (pdu : List ℕ) (answer : Reply) (all : List Exchange) : Type 0 where
+-- All are those before and one more: this PDU was asked next, and this reply came to it, with the number of the
+-- request and from the unit of the port.
+pub record Follows
+    (target : Target) (before : List Exchange) (pdu : List ℕ) (answer : Reply) (all : List Exchange) : Type 0 where
   pub came : Frame
   pub exchange : all ≡ before ++ exchange_behind target before pdu came ∷ []
   pub number : came.transaction ≡ length before + 1
@@ -114,7 +115,8 @@ Reached target all (ReadingBack found) = IsWritten target all found
 Reached target all _ = ⊥
 
 -- The last request was asked at such a stage, and what came to it has led to this fault.
-pub record IsRefused (target : Target) (all : List Exchange) (fault : CommissionFault) (found : Option Record702) : Type 0 where
+pub record IsRefused
+    (target : Target) (all : List Exchange) (fault : CommissionFault) (found : Option Record702) : Type 0 where
   pub before : List Exchange
   pub stage : Stage
   pub reached : Reached target before stage

@@ -70,10 +70,12 @@ misfit unit port found =
     (unlike point.PctSf unit.rating.psf found.psf)
 
 abbrev pub compared : units.Unit → PortRecord → Record702 → Stage
-compared unit port found = option_map_or (λ error. Refused error (Some found)) (misfit unit port found) (WritingFloor found)
+compared unit port found =
+    option_map_or (λ error. Refused error (Some found)) (misfit unit port found) (WritingFloor found)
 
 -- the block of the 704: WMaxLimPct_SF as it stands in its register
-abbrev pub controls_read : units.Unit → PortRecord → (base wmax : ℕ) → (wsf : ℤ) → Result (List ℕ) CommissionFault → Stage
+abbrev pub controls_read :
+    units.Unit → PortRecord → (base wmax : ℕ) → (wsf : ℤ) → Result (List ℕ) CommissionFault → Stage
 controls_read unit port base wmax wsf (Ok values) =
     compared unit port (record { base = base; wmax = wmax; wsf = wsf; psf = raw_psf values })
 controls_read unit port base wmax wsf (Err error) = Refused error None
@@ -101,7 +103,8 @@ read_back floor found (judged.WrongUnit unit) = Refused fault.WrongReply (Some f
 abbrev pub stage_after : Target → Stage → Option Reply → Stage
 stage_after target (Discovering walk) answer = discovered walk (block_of 2 answer)
 stage_after target (ReadingCapacity start base) answer = capacity_read base (block_of 46 answer)
-stage_after target (ReadingControls base wmax wsf) answer = controls_read target.unit target.port base wmax wsf (block_of 55 answer)
+stage_after target (ReadingControls base wmax wsf) answer =
+    controls_read target.unit target.port base wmax wsf (block_of 55 answer)
 stage_after target (WritingFloor found) answer = floor_written target.port found answer
 stage_after target (ReadingBack found) answer =
     read_back target.unit.floor found (reply_judgement target.unit.floor target.rules.timer answer)

@@ -36,7 +36,8 @@ exchanges target frames = exchanges_from (start target) frames
 -- the requests that it has asked, in their order: those to which a reply was taken, and the one that is asked
 abbrev pub requests : Target → List Frame → List Frame
 requests target frames =
-    map (λ exchange. exchange.request) (exchanges target frames) ++ option_to_list (asked (standing_after target frames))
+    map (λ exchange. exchange.request) (exchanges target frames)
+    ++ option_to_list (asked (standing_after target frames))
 
 -- the request that a frame leads to: none where it is skipped, nor at the end
 abbrev pub request_by : Standing → Frame → List Frame

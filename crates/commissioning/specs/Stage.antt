@@ -42,8 +42,8 @@ IsOver (ReadingBack found) = ⊥
 IsOver (Commissioned found) = Unit {0}
 IsOver (Refused fault found) = Unit {0}
 
--- A commissioning: of what, its stage, the number of the request that is asked, and how many frames of other numbers have come since
--- it was.
+-- A commissioning: of what, its stage, the number of the request that is asked, and how many frames of other
+-- numbers have come since it was.
 pub record Standing : Type 0 where
   pub target : Target
   pub stage : Stage

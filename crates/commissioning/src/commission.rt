@@ -28,8 +28,8 @@ pub enum Took {
     Taken,
 }
 
-/// The commissioning of one inverter over one link. It makes no input or output itself: `next` says which request is to be sent,
-/// and `took` is handed the frames that come. It takes no memory.
+/// The commissioning of one inverter over one link. It makes no input or output itself: `next` says which request
+/// is to be sent, and `took` is handed the frames that come. It takes no memory.
 #[derive(Debug, Drop)]
 pub struct Commission {
     target: Target,
@@ -111,7 +111,8 @@ impl Commission {
         ensures answer { result ≡ answer self.old frame.now }
 
         // A frame of another transaction number is skipped, seven at most for each request.
-        ensures skipped { (result ≡ Ok Took.Skipped) ↔ ((frame.now.transaction ≢ self.old.number) × (self.old.skipped < 7)) }
+        ensures skipped { (result ≡ Ok Took.Skipped)
+            ↔ ((frame.now.transaction ≢ self.old.number) × (self.old.skipped < 7)) }
 
         // After a fault nothing is asked any more.
         ensures over { OnErr result (IsOver self.new.stage) }
@@ -182,7 +183,9 @@ impl Commission {
 
 /// The read that a walk wants, as a request of this number to a unit.
 fn walk_request(walk: &Walk, number: u16, unit: u8) -> Option<Frame>
-    ensures request { result ≡ option_map (λ pdu. record { transaction = number; unit = unit; pdu = pdu }) (wanted_pdu (next_read walk.now.place)) }
+    ensures request { result
+        ≡ option_map (λ pdu. record { transaction = number; unit = unit; pdu = pdu })
+        (wanted_pdu (next_read walk.now.place)) }
     ensures begins { IfSome result (λ frame. 0 < length frame.pdu) }
 {
     match walk.next() {

@@ -1,9 +1,9 @@
-//! Commissions one inverter over one link: finds its models, compares their points with the site file, writes its floor as a limit,
-//! and reads that back.
+//! Commissions one inverter over one link: finds its models, compares their points with the site file, writes its
+//! floor as a limit, and reads that back.
 //!
-//! A `Commission` does no input or output itself. It says which request is to be sent next, and is handed the frames that come.
-//! What each frame makes of it stands in `specs/Taking.antt`; `specs/Passed.antt` says what has passed over the link when it
-//! stands at a stage.
+//! A `Commission` does no input or output itself. It says which request is to be sent next, and is handed the
+//! frames that come. What each frame makes of it stands in `specs/Taking.antt`; `specs/Passed.antt` says what has
+//! passed over the link when it stands at a stage.
 #![tactic(auto)]
 
 mod commission;

@@ -16,7 +16,8 @@ abbrev pub handing_of : Option ℕ → Handing
 handing_of None = Whole
 handing_of (Some cut) = CutAt cut
 
--- a piece that has the function of a write behind a frame's header of seven bytes (Modbus Application Protocol V1.1b3, section 6.12)
+-- a piece that has the function of a write behind a frame's header of seven bytes (Modbus Application Protocol
+-- V1.1b3, section 6.12)
 abbrev pub is_write : List ℕ → Bool
 is_write piece = slice_index piece 7 == 16
 
@@ -47,8 +48,10 @@ abbrev pub IsOpen : Handing → Type 0
 IsOpen Blocked = ⊥
 IsOpen _ = Unit {0}
 
--- What a send comes to: behind the cut it fails, and the dialer below has no call; else the bytes that are handed on are sent there.
-abbrev pub Sends : {E : Type 0} → Handing → (piece : List ℕ) → Result ℕ E → (before now : ℕ) → (blocked after : ℕ) → Type 0
+-- What a send comes to: behind the cut it fails, and the dialer below has no call; else the bytes that are handed
+-- on are sent there.
+abbrev pub Sends :
+    {E : Type 0} → Handing → (piece : List ℕ) → Result ℕ E → (before now : ℕ) → (blocked after : ℕ) → Type 0
 Sends Blocked piece result before now blocked after = IsErr result × (now ≡ before) × (after ≡ one_more blocked)
 Sends handing piece result before now blocked after =
     WritesAtMost result (handed handing piece) × HasCause before now result × (after ≡ blocked)

@@ -19,9 +19,10 @@ pub record Waiting : Type 0 where
   pub left : List ℕ
   pub room : ℕ
 
--- The record of the links, the clock with the greatest of its readings so far, or 0 before the first, and the inverter; on the link that is up what came of a request that isn't whole, the reply
--- bytes that are left, and how the inverter stands to it; which calls fail, and the count of refusals for memory. Where no link is
--- up, nothing is left of one.
+-- The record of the links, the clock with the greatest of its readings so far, or 0 before the first, and the
+-- inverter; on the link that is up what came of a request that isn't whole, the reply bytes that are left, and how
+-- the inverter stands to it; which calls fail, and the count of refusals for memory. Where no link is up, nothing
+-- is left of one.
 pub record DeviceDialerState (K : Type 0) : Type 0 where
   pub links : Links
   pub clock : K
@@ -81,8 +82,8 @@ after_bad_receive state = with_fresh_links (with_failure state.links) (after_bad
 abbrev pub short_of_memory : {K : Type 0} → DeviceDialerState K → DeviceDialerState K
 short_of_memory state = record state { starved = one_more state.starved }
 
--- What a receive with so much room answers: reply bytes that are left, as many as find room; where none is left, that the link is
--- closed, if the inverter has hung up and no receive has told it yet, and else that nothing came.
+-- What a receive with so much room answers: reply bytes that are left, as many as find room; where none is left,
+-- that the link is closed, if the inverter has hung up and no receive has told it yet, and else that nothing came.
 abbrev pub next_answer : (room : ℕ) → (left : List ℕ) → Standing → Answer
 next_answer room (byte ∷ bytes) standing = some_bytes (take room (byte ∷ bytes))
 next_answer room [] Listens = Quiet
@@ -108,29 +109,33 @@ after_good_receive room state = record state {
 abbrev pub IsRead : (ℕ → Bool) → (before greatest : ℕ) → Type 0
 IsRead may_give before greatest = (reading : ℕ) × IsTrue (may_give reading) × (greatest ≡ max before reading)
 
--- Each was answered at the greatest reading so far, with one reading more for each: the greatest was this before, and is this behind.
+-- Each was answered at the greatest reading so far, with one reading more for each: the greatest was this before,
+-- and is this behind.
 abbrev pub AreAtReadings : (ℕ → Bool) → (before : ℕ) → List Answered → (greatest : ℕ) → Type 0
 AreAtReadings may_give before [] greatest = greatest ≡ before
 AreAtReadings may_give before (answered ∷ later) greatest =
     IsRead may_give before answered.at × AreAtReadings may_give answered.at later greatest
 
 -- The frames at the front of a stream were answered in order, at moments that the clock may give and that never fall.
-pub record AreHeard (may_give : ℕ → Bool) (old new : BankRecord) (stream behind : List ℕ) (answers : List Answered) : Type 0 where
+pub record AreHeard
+    (may_give : ℕ → Bool) (old new : BankRecord) (stream behind : List ℕ) (answers : List Answered) : Type 0 where
   pub replies : AreAnswers old answers
   pub bank : new ≡ bank_after_all old answers
   pub moments : AllByRecursion (λ answered. IsTrue (may_give answered.at)) answers
   pub frames : AllByRecursion (λ answered. IsFrame answered.asked) answers
   pub whole : stream ≡ asked_bytes answers ++ behind
 
--- A frame or a fault stands there that is hung up on. For a whole frame the clock was read once more, for a fault it wasn't.
+-- A frame or a fault stands there that is hung up on. For a whole frame the clock was read once more, for a fault
+-- it wasn't.
 abbrev pub HangsUp : (ℕ → Bool) → (number : ℕ) → (behind : List ℕ) → (before greatest : ℕ) → Type 0
 HangsUp may_give number behind before greatest =
     ((frame : Frame) × Begins behind frame × IsHungUpOn number frame × IsRead may_give before greatest)
     ⊎ ((fault : FrameFault) × HasFault behind fault × (greatest ≡ before))
 
--- What an inverter that listens makes of a stream: it answers each frame, up to the first frame or fault that it hangs up on. Of
--- the stream it keeps the part of a request behind the frames, and nothing where it has hung up.
-abbrev pub Hears : (ℕ → Bool) → (old new : BankRecord) → (before greatest : ℕ) → (stream kept left after : List ℕ) → Standing → Type 0
+-- What an inverter that listens makes of a stream: it answers each frame, up to the first frame or fault that it
+-- hangs up on. Of the stream it keeps the part of a request behind the frames, and nothing where it has hung up.
+abbrev pub Hears :
+    (ℕ → Bool) → (old new : BankRecord) → (before greatest : ℕ) → (stream kept left after : List ℕ) → Standing → Type 0
 Hears may_give old new before greatest stream kept left after Listens =
     (answers : List Answered) × AreHeard may_give old new stream kept answers
     × AreAtReadings may_give before answers greatest × IsUnfinished kept × (after ≡ left ++ answer_bytes answers)
@@ -149,14 +154,16 @@ pub record IsUntouched {K : Type 0} (old new : DeviceDialerState K) : Type 0 whe
   pub standing : new.standing ≡ old.standing
 
 -- what an inverter makes of a piece, by how it stands to the link: behind a hang-up of its own it doesn't look at it
-abbrev pub TakesPiece : {K : Type 0} → (ℕ → Bool) → (piece : List ℕ) → (old new : DeviceDialerState K) → Standing → Type 0
+abbrev pub TakesPiece :
+    {K : Type 0} → (ℕ → Bool) → (piece : List ℕ) → (old new : DeviceDialerState K) → Standing → Type 0
 TakesPiece may_give piece old new Listens =
     Hears may_give old.bank new.bank old.latest new.latest (old.kept ++ piece) new.kept old.left new.left new.standing
 TakesPiece may_give piece old new HungUp = IsUntouched old new
 TakesPiece may_give piece old new Told = IsUntouched old new
 
 -- a piece was handed to the inverter whole, and nothing else was done
-pub record IsDelivered {K : Type 0} (may_give : ℕ → Bool) (piece : List ℕ) (old new : DeviceDialerState K) : Type 0 where
+pub record IsDelivered
+    {K : Type 0} (may_give : ℕ → Bool) (piece : List ℕ) (old new : DeviceDialerState K) : Type 0 where
   pub links : new.links ≡ with_bytes piece old.links
   pub clock : new.clock ≡ old.clock
   pub schedule : new.schedule ≡ old.schedule

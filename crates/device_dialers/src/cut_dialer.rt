@@ -24,8 +24,8 @@ pub enum Handing {
     Blocked,
 }
 
-/// A dialer over another, which cuts one frame short. Of the first piece that is a write it hands so many first bytes on, and each
-/// later send on that link fails. It cuts once. All other calls are those of the dialer below.
+/// A dialer over another, which cuts one frame short. Of the first piece that is a write it hands so many first
+/// bytes on, and each later send on that link fails. It cuts once. All other calls are those of the dialer below.
 #[derive(Debug, Drop)]
 pub struct CutDialer<N: Dialer> {
     inner: N,
@@ -92,7 +92,8 @@ impl<N: Dialer> Dialer for CutDialer<N> {
 
     fn dial(&mut self, host: &str, port: u16, wait: u32) -> Result<(), DialFailed>
         ensures links { N.links self.new.inner ≡ option_map (after_dial host.now port result) (N.links self.old.inner) }
-        ensures cause { HasCause (N.faults self.old.inner + self.old.blocked) (N.faults self.new.inner + self.new.blocked) result }
+        ensures cause { HasCause (N.faults self.old.inner + self.old.blocked)
+            (N.faults self.new.inner + self.new.blocked) result }
 
         // It fails only where the dialer below does. On a new link nothing was cut.
         ensures below { HasCause (N.faults self.old.inner) (N.faults self.new.inner) result }
@@ -112,9 +113,11 @@ impl<N: Dialer> Dialer for CutDialer<N> {
         ensures some { IfOk result (λ count. 0 < length bytes.now → 0 < count) }
         ensures down { IfSome (N.links self.old.inner) (λ before. IsDown before → IsErr result) }
         ensures links { N.links self.new.inner ≡ option_map (after_send bytes.now result) (N.links self.old.inner) }
-        ensures cause { HasCause (N.faults self.old.inner + self.old.blocked) (N.faults self.new.inner + self.new.blocked) result }
+        ensures cause { HasCause (N.faults self.old.inner + self.old.blocked)
+            (N.faults self.new.inner + self.new.blocked) result }
 
-        // Behind the cut it fails. Else what is handed on is sent below, and the first write is the last piece on its link.
+        // Behind the cut it fails. Else what is handed on is sent below, and the first write is the last piece on
+        // its link.
         ensures sends { Sends self.old.handing bytes.now result
             (N.faults self.old.inner) (N.faults self.new.inner) self.old.blocked self.new.blocked }
         ensures handing { self.new.handing ≡ handing_after self.old.handing bytes.now }
@@ -131,7 +134,8 @@ impl<N: Dialer> Dialer for CutDialer<N> {
         ensures bound { IfOk result (FitsInto into.new) }
         ensures down { IfSome (N.links self.old.inner) (λ before. IsDown before → IsErr result) }
         ensures links { N.links self.new.inner ≡ option_map (after_receive into.new result) (N.links self.old.inner) }
-        ensures cause { HasCause (N.faults self.old.inner + self.old.blocked) (N.faults self.new.inner + self.new.blocked) result }
+        ensures cause { HasCause (N.faults self.old.inner + self.old.blocked)
+            (N.faults self.new.inner + self.new.blocked) result }
 
         // It fails only where the dialer below does, and cuts nothing.
         ensures below { HasCause (N.faults self.old.inner) (N.faults self.new.inner) result }

@@ -21,10 +21,10 @@ use world_traits::{
     Clock, DialFailed, Dialer, LinkLog, Received, RecvFailed, Schedule, SendFailed,
 };
 
-/// A dialer in memory whose links all reach one simulated inverter. It reads its clock once for each whole frame, in the send that
-/// completes it, and the inverter answers at the greatest reading so far. It takes each piece whole, and fails exactly at the calls
-/// whose numbers are listed, counted from 0 over dials, sends and receives, where no link is up, and where memory runs out. It
-/// tells the record of its links.
+/// A dialer in memory whose links all reach one simulated inverter. It reads its clock once for each whole frame,
+/// in the send that completes it, and the inverter answers at the greatest reading so far. It takes each piece
+/// whole, and fails exactly at the calls whose numbers are listed, counted from 0 over dials, sends and receives,
+/// where no link is up, and where memory runs out. It tells the record of its links.
 #[derive(Drop)]
 pub struct DeviceDialer<'c, K: Clock> {
     alloc: Global,
@@ -59,7 +59,8 @@ impl<'c, K: Clock> Model for DeviceDialer<'c, K> {
 }
 
 impl<'c, K: Clock> DeviceDialer<'c, K> {
-    /// A dialer that was not called yet, over an inverter that wasn't asked yet. The calls with the numbers in `failing` fail.
+    /// A dialer that was not called yet, over an inverter that wasn't asked yet. The calls with the numbers in
+    /// `failing` fail.
     pub fn new(alloc: Global, bank: Bank, clock: &'c K, failing: Vec<u32>) -> Self
         requires { bank.last ≡ 0 }
         ensures { result ≡ new_dialer bank clock.now failing.items }

@@ -28,7 +28,8 @@ pub(crate) fn hear<K: Clock>(
 ) -> Standing
     requires unfinished { IsUnfinished frames.old }
     requires room { frame_limit * length piece.now ≤ replies.old.room }
-    ensures heard { Hears (K.may_give device.old.clock) device.old.bank device.new.bank device.old.latest device.new.latest
+    ensures heard { Hears (K.may_give device.old.clock) device.old.bank device.new.bank
+        device.old.latest device.new.latest
         (frames.old ++ piece.now) frames.new replies.old.left replies.new.left result }
     ensures clock { device.new.clock ≡ device.old.clock }
 {

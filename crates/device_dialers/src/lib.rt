@@ -1,7 +1,7 @@
 //! A simulated plant: links in memory behind which a simulated inverter answers.
 //!
-//! A `DeviceDialer` is a dialer whose links reach a `Bank`. A `CutDialer` is a dialer over another that cuts one frame short. What
-//! each of their calls does stands in `specs/`.
+//! A `DeviceDialer` is a dialer whose links reach a `Bank`. A `CutDialer` is a dialer over another that cuts one
+//! frame short. What each of their calls does stands in `specs/`.
 #![tactic(auto)]
 
 mod cut_dialer;

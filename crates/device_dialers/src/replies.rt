@@ -61,7 +61,8 @@ impl Replies {
         }
     }
 
-    /// Copies as many bytes as are left and find room to the front of `into`, and tells how many. They are left no more.
+    /// Copies as many bytes as are left and find room to the front of `into`, and tells how many. They are left no
+    /// more.
     pub(crate) fn give(&mut self, into: &mut [u8]) -> usize
         ensures count { result ≡ min (length self.old.left) (length into.old) }
         ensures front { take result into.new ≡ take result self.old.left }

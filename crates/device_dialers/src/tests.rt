@@ -124,8 +124,8 @@ fn shown(high: u8, low: u8, left: u8) -> [u8; 25] {
 
 #[test]
 fn each_request_reads_the_clock_once(rt: HostRuntime) -> Result<(), Fail> {
-    // The write at 20 s is held up to 81.7 s. The read-backs come at 40, 60, 80 and 100 s: 42, 22 and 2 s are left, and then it has
-    // gone back to its floor.
+    // The write at 20 s is held up to 81.7 s. The read-backs come at 40, 60, 80 and 100 s: 42, 22 and 2 s are left,
+    // and then it has gone back to its floor.
     let clock = StepClock::new(0, 20_000);
     let mut dialer = DeviceDialer::new(rt.alloc(), bank(&rt)?, &clock, Vec::new(rt.alloc()));
     let (write, read_back) = (&FRAMES[12..37], &FRAMES[37..49]);

@@ -1,5 +1,6 @@
--- What a served inverter answers to a frame, and which frames it hangs up on (Modbus Messaging on TCP/IP Implementation Guide
--- V1.0b, section 3.1.3: a reply has the transaction number and the unit number of its request).
+-- What a served inverter answers to a frame, and which frames it hangs up on (Modbus Messaging on TCP/IP
+-- Implementation Guide V1.0b, section 3.1.3: a reply has the transaction number and the unit number of its
+-- request).
 use Rattle.std.specs.Prelude.{◌≡◌, ◌≢◌, ℕ, ◌⊎◌, ◌≤◌, List, [], ◌∷◌, map}
 use Rattle.modbus_pdu.specs.declared.pdu.Request.{Request}
 use Rattle.modbus_pdu.specs.Grammar.{IsRequest, IsReply}
@@ -19,8 +20,8 @@ pub record Answered : Type 0 where
   pub at : ℕ
   pub answer : Frame
 
--- The answer is the reply of the bank to the request, not before the last moment of the bank, with the numbers of the frame that
--- came.
+-- The answer is the reply of the bank to the request, not before the last moment of the bank, with the numbers of
+-- the frame that came.
 pub record IsAnswer (bank : BankRecord) (answered : Answered) : Type 0 where
   pub number : answered.asked.unit ≡ bank.number
   pub request : IsRequest answered.asked.pdu answered.request

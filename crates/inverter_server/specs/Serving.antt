@@ -1,4 +1,5 @@
--- What was done to serve an inverter: the dials, and on each link the frames that were answered. It reads the record of the links.
+-- What was done to serve an inverter: the dials, and on each link the frames that were answered. It reads the
+-- record of the links.
 use Rattle.std.specs.Prelude.{◌≡◌, ℕ, ◌+◌, ◌-◌, ◌^◌, ◌<◌, ◌≤◌, ◌⊎◌, Bool, IsTrue, List, [], ◌∷◌, ◌++◌, length, map, min, sum_by, take, Option, Some, None}
 use Rattle.std.specs.List.{AllByRecursion, flat_map}
 use Rattle.std.specs.Option.{option_map}
@@ -12,8 +13,8 @@ use Rattle.plant_book.specs.Port.{PortRecord}
 use Rattle.inverter_sim.specs.Bank.{BankRecord}
 use Rattle.inverter_server.specs.Answers.{Answered, IsHungUpOn, AreAnswers, asked_bytes, answer_bytes}
 
--- How a link came to its end: it hasn't, and is up; the peer closed it; a receive failed; a frame or a fault came that is hung up
--- on; or the send of an answer failed.
+-- How a link came to its end: it hasn't, and is up; the peer closed it; a receive failed; a frame or a fault came
+-- that is hung up on; or the send of an answer failed.
 pub data Ending : Type 0 where
   Open : Ending
   Closed : Ending
@@ -45,7 +46,8 @@ AllGoOn receipts = AllByRecursion (λ receipt. GoesOn receipt.answer) receipts
 -- the last receive came to this, and the link went on behind each before it
 abbrev pub EndsWith : links.Answer → List Receipt → Type 0
 EndsWith answer receipts =
-    (before : List Receipt) × (last : Receipt) × (receipts ≡ before ++ last ∷ []) × (last.answer ≡ answer) × AllGoOn before
+    (before : List Receipt) × (last : Receipt) × (receipts ≡ before ++ last ∷ [])
+    × (last.answer ≡ answer) × AllGoOn before
 
 -- what the receives of a link came to
 abbrev pub HasReceipts : Ending → List Receipt → Type 0
@@ -53,8 +55,8 @@ HasReceipts Closed receipts = EndsWith links.Closed receipts
 HasReceipts Lost receipts = EndsWith links.Failed receipts
 HasReceipts _ receipts = AllGoOn receipts
 
--- What stands behind the frames that were answered: less than a frame, a frame or a fault that is hung up on, or, where a send
--- failed, what was not looked at any more.
+-- What stands behind the frames that were answered: less than a frame, a frame or a fault that is hung up on, or,
+-- where a send failed, what was not looked at any more.
 abbrev pub StandsBehind : (number : ℕ) → Ending → List ℕ → Type 0
 StandsBehind number Refused behind =
     ((frame : Frame) × Begins behind frame × IsHungUpOn number frame) ⊎ ((fault : FrameFault) × HasFault behind fault)

@@ -1,4 +1,5 @@
--- What a server keeps between two turns, and what one turn does. No promise to a caller names this, but for the state of a device.
+-- What a server keeps between two turns, and what one turn does. No promise to a caller names this, but for the
+-- state of a device.
 use Rattle.std.specs.Prelude.{◌≡◌, ℕ, ◌+◌, ◌⊎◌, Bool, IsTrue, List, [], ◌++◌, length, sum_by, Option, Some, None}
 use Rattle.std.specs.List.{AllByRecursion}
 use Rattle.std.specs.Option.{option_map}
@@ -38,7 +39,8 @@ HandlesFrame may_give frame old new course.Ends =
     × IsCutShort (frame_spelling answer) old.links new.links × Rose old.faults new.faults)
 
 -- These frames at the front of a stream were answered, and no send failed.
-pub record IsProgress (may_give : ℕ → Bool) (old new : State) (stream behind : List ℕ) (answers : List Answered) : Type 0 where
+pub record IsProgress
+    (may_give : ℕ → Bool) (old new : State) (stream behind : List ℕ) (answers : List Answered) : Type 0 where
   pub replies : AreAnswers old.bank answers
   pub bank : new.bank ≡ bank_after_all old.bank answers
   pub number : new.bank.number ≡ old.bank.number
@@ -88,7 +90,8 @@ CameTo Closed answer = answer ≡ links.Closed
 CameTo Lost answer = answer ≡ links.Failed
 CameTo _ answer = GoesOn answer
 
--- A receive, and the answers to the frames that are whole then. Where the link has come to its end it may be hung up then.
+-- A receive, and the answers to the frames that are whole then. Where the link has come to its end it may be hung
+-- up then.
 pub record IsAttended (may_give : ℕ → Bool) (old new : State) (kept behind : List ℕ) (came : links.Answer)
     (answers : List Answered) (ending : Ending) (sent : List ℕ) (after : Links → Links) : Type 0 where
   pub replies : AreAnswers old.bank answers

@@ -9,9 +9,10 @@ use modbus_pdu::{decode_request, encode_reply};
 use std::marker::Model;
 use world_traits::Clock;
 
-/// The answer of a simulated inverter to a frame at a moment in ms: its reply, with the transaction number and the unit number of
-/// the frame (Modbus Messaging on TCP/IP Implementation Guide V1.0b, section 3.1.3). None says that the link is to be hung up: the
-/// frame is for another unit, or its PDU is no request. Then the inverter wasn't asked.
+/// The answer of a simulated inverter to a frame at a moment in ms: its reply, with the transaction number and the
+/// unit number of the frame (Modbus Messaging on TCP/IP Implementation Guide V1.0b, section 3.1.3). None says that
+/// the link is to be hung up: the frame is for another unit, or its PDU is no request. Then the inverter wasn't
+/// asked.
 pub fn answer(bank: &mut Bank, now: u64, frame: &Frame) -> Option<Frame>
     requires in_order { bank.old.last ≤ now }
     requires moment { now ≤ moment_max }
@@ -34,7 +35,8 @@ pub fn answer(bank: &mut Bank, now: u64, frame: &Frame) -> Option<Frame>
     })
 }
 
-/// A simulated inverter that answers frames by a clock: each is answered at the greatest of the clock's readings so far.
+/// A simulated inverter that answers frames by a clock: each is answered at the greatest of the clock's readings so
+/// far.
 #[derive(Drop)]
 pub struct Device<'c, K: Clock> {
     bank: Bank,
@@ -64,8 +66,8 @@ impl<'c, K: Clock> Device<'c, K> {
         }
     }
 
-    /// Reads the clock once, and answers the frame at the greatest reading so far. None says that the link is to be hung up. It may
-    /// wait, as the clock may.
+    /// Reads the clock once, and answers the frame at the greatest reading so far. None says that the link is to be
+    /// hung up. It may wait, as the clock may.
     pub fn answer(&mut self, frame: &Frame) -> Option<Frame>
         ensures answered { IfSome result
             (λ answer. IsAnsweredBy self.old.bank self.new.latest frame.now answer self.new.bank) }

@@ -11,12 +11,12 @@ use mbap_frames::Frames;
 use plant_book::Port;
 use world_traits::{Clock, DialFailed, Dialer};
 
-/// Serves a simulated inverter that wasn't asked yet, in so many turns: each is a dial to the host and the TCP port of `port`
-/// where no link is up, and a receive else. `wait` says how long each dial and each receive waits at most, in ms. The inverter's
-/// unit number is the bank's.
+/// Serves a simulated inverter that wasn't asked yet, in so many turns: each is a dial to the host and the TCP port
+/// of `port` where no link is up, and a receive else. `wait` says how long each dial and each receive waits at
+/// most, in ms. The inverter's unit number is the bank's.
 ///
-/// A frame or a fault of the stream that can't be answered hangs the link up. So do a send or a receive that failed, and a peer
-/// that has closed the link. It takes no memory, and may wait, as the dialer and the clock may.
+/// A frame or a fault of the stream that can't be answered hangs the link up. So do a send or a receive that
+/// failed, and a peer that has closed the link. It takes no memory, and may wait, as the dialer and the clock may.
 pub fn serve<N: Dialer, K: Clock>(
     bank: Bank,
     port: &Port,
@@ -36,7 +36,8 @@ pub fn serve<N: Dialer, K: Clock>(
     }
 }
 
-/// One turn: a dial where no link is up, and a receive else. Gives back the reader of the stream of the link that is up then.
+/// One turn: a dial where no link is up, and a receive else. Gives back the reader of the stream of the link that
+/// is up then.
 fn turn<N: Dialer, K: Clock>(
     device: &mut Device<'_, K>,
     line: Option<Frames>,

@@ -34,7 +34,8 @@ impl<'c, K: Clock> SteadyClock<'c, K> {
 
     /// Reads the clock, and answers the greatest of its readings so far, in ms. It may wait, as the clock may.
     pub fn now(&mut self) -> u64
-        ensures greatest { (reading : ℕ) × IsTrue (K.may_give self.old.clock reading) × (result ≡ max self.old.latest reading) }
+        ensures greatest { (reading : ℕ) × IsTrue (K.may_give self.old.clock reading)
+            × (result ≡ max self.old.latest reading) }
         ensures clock { self.new.clock ≡ self.old.clock }
         ensures latest { self.new.latest ≡ result }
         ensures later { self.old.latest ≤ result }

@@ -27,7 +27,8 @@ fn bank(rt: &impl Abort) -> Result<Bank, Fail>
     Ok(Bank::new(unit, rules, 1, after))
 }
 
-/// Serves over one link that plays these moves, in so many turns, by a clock that goes on by so many ms at each reading.
+/// Serves over one link that plays these moves, in so many turns, by a clock that goes on by so many ms at each
+/// reading.
 fn served(
     rt: &impl Abort,
     alloc: Global,
@@ -89,7 +90,8 @@ fn a_read_is_answered_however_it_is_cut(rt: HostRuntime) -> Result<(), Fail> {
 
 #[test]
 fn a_link_is_hung_up_behind_the_answers(rt: HostRuntime) -> Result<(), Fail> {
-    // Two frames in one piece are answered, and one for another unit is hung up on: the third turn dials, and finds no link.
+    // Two frames in one piece are answered, and one for another unit is hung up on: the third turn dials, and finds
+    // no link.
     let mut piece = Vec::from_slice(rt.alloc(), &READ)?;
     piece.extend_from_slice(&READ)?;
     piece.extend_from_slice(&[0, 2, 0, 0, 0, 6, 2, 3, 0x9C, 0x40, 0, 2])?;
@@ -105,7 +107,8 @@ fn a_link_is_hung_up_behind_the_answers(rt: HostRuntime) -> Result<(), Fail> {
     assert_link(&rt, &quiet, &[], 4)
 }
 
-/// A write of 100 percent, its reply, a read-back of the eight registers from WMaxLimPctEna on, and what its reply begins with.
+/// A write of 100 percent, its reply, a read-back of the eight registers from WMaxLimPctEna on, and what its reply
+/// begins with.
 const WRITE: [u8; 25] = [
     0, 1, 0, 0, 0, 0x13, 1, 0x10, 0x9D, 0x76, 0, 6, 0x0C, 0, 1, 3, 0xE8, 0, 100, 0, 1, 0, 0, 0, 60,
 ];
@@ -118,8 +121,8 @@ const SHOWN: [u8; 9] = [0, 1, 0, 0, 0, 0x13, 1, 3, 16];
 
 #[test]
 fn each_request_reads_the_clock_once(rt: HostRuntime) -> Result<(), Fail> {
-    // The write at 20 s is held up to 81.7 s. The read-backs come at 40, 60, 80 and 100 s: 42, 22 and 2 s are left, and then it has
-    // gone back to its floor.
+    // The write at 20 s is held up to 81.7 s. The read-backs come at 40, 60, 80 and 100 s: 42, 22 and 2 s are left,
+    // and then it has gone back to its floor.
     let mut piece = Vec::from_slice(rt.alloc(), &WRITE)?;
     let mut sent = Vec::from_slice(rt.alloc(), &WROTE)?;
     for (high, low, left) in [(3, 0xE8, 42), (3, 0xE8, 22), (3, 0xE8, 2), (0, 100, 0)] {

@@ -7,8 +7,8 @@ use crate::piece::{Course, answer_piece};
 use mbap_frames::{Frames, MAX_FRAME};
 use world_traits::{Clock, Dialer, Received, RecvFailed};
 
-/// One turn on the link that is up: one receive, and the answers to the frames that are whole then. A link that has come to its
-/// end is hung up, and gives nothing back; of one that goes on the reader of its stream is given back.
+/// One turn on the link that is up: one receive, and the answers to the frames that are whole then. A link that has
+/// come to its end is hung up, and gives nothing back; of one that goes on the reader of its stream is given back.
 pub(crate) fn attend<N: Dialer, K: Clock>(
     device: &mut Device<'_, K>,
     mut frames: Frames,

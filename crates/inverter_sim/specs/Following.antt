@@ -39,14 +39,17 @@ pub record IsRunning (rules : Rules) (now due : ℕ) (events : List Timed) : Typ
   pub to_come : now ≤ due
 
 abbrev pub IsTimer : Rules → ℕ → List Timed → Option ℕ → Type 0
-IsTimer rules now events None = (at : ℕ) (grant : Grant) → last_that is_change events ≡ Some (record { at = at; event = Act grant }) → ⊥
+IsTimer rules now events None =
+    (at : ℕ) (grant : Grant)
+    → last_that is_change events ≡ Some (record { at = at; event = Act grant }) → ⊥
 IsTimer rules now events (Some due) = IsRunning rules now due events
 
 -- what it did up to now, what it holds, and when its timer runs out
 pub record HasFollowed (history : History) (inverter now raw : ℕ) (due : Option ℕ) (events : List Timed) : Type 0 where
   pub start : IsStart history inverter events
   pub until : AllByRecursion (λ timed. timed.at ≤ now) events
-  pub once : (sight : Sight) → Contains (sights history) sight → sight.read.inverter ≡ inverter → count_by (λ timed. is_look_of sight timed.event) events ≡ 1
+  pub once : (sight : Sight) → Contains (sights history) sight → sight.read.inverter ≡ inverter
+      → count_by (λ timed. is_look_of sight timed.event) events ≡ 1
   pub holds : held history.life.site inverter events ≡ raw
   pub timer : IsTimer history.life.site.rules now events due
 
@@ -76,10 +79,11 @@ revert_by now (Some moment) = if nat_le moment now then revert_at moment ∷ [] 
 
 -- of the requests of this link that acted or were looked at none has a greater number
 abbrev pub IsAskedUpTo : List Timed → ℕ × ℕ → ℕ → Type 0
-IsAskedUpTo events link most = AllByRecursion (λ timed. (number : ℕ) → IsAsked timed.event link number → number ≤ most) events
+IsAskedUpTo events link most =
+    AllByRecursion (λ timed. (number : ℕ) → IsAsked timed.event link number → number ≤ most) events
 
--- A write may act now: it was granted to the inverter, its send window and delay are not over, and none of its link with a greater
--- number acted or was looked at.
+-- A write may act now: it was granted to the inverter, its send window and delay are not over, and none of its link
+-- with a greater number acted or was looked at.
 pub record MayAct (history : History) (inverter now : ℕ) (events : List Timed) (grant : Grant) : Type 0 where
   pub granted : Contains (grants history) grant
   pub its : grant.write.inverter ≡ inverter

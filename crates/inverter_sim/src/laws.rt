@@ -47,15 +47,16 @@ pub fn limits_are_taken_and_shown()
 {}
 
 /// A limit that is held until it reverts is the timed device. It begins as the floor. As time passes, the revert comes
-/// that is due. A write that may act is held for a time that the tolerance of the timer allows. A read that is looked at
-/// shows what is held. So an inverter that does only this follows the timed device, at every moment.
+/// that is due. A write that may act is held for a time that the tolerance of the timer allows. A read that is
+/// looked at shows what is held. So an inverter that does only this follows the timed device, at every moment.
 pub fn limits_follow_the_timed_device()
     ensures begins { (history : History) (inverter now : ℕ)
         → ((sight : Sight) → Contains (sights history) sight → sight.read.inverter ≡ inverter → ⊥)
         → HasFollowed history inverter now (floor_raw_at history.life.site inverter) None [] }
     ensures passes { (history : History) (inverter now later : ℕ) (events : List Timed) → now ≤ later
         → (raw : ℕ) (revert : Option ℕ) → HasFollowed history inverter now raw revert events
-        → let limit = limit_at (floor_raw_at history.life.site inverter) later (record { raw = raw; revert = revert }) in
+        → let limit = limit_at (floor_raw_at history.life.site inverter) later
+        (record { raw = raw; revert = revert }) in
         HasFollowed history inverter later limit.raw limit.revert (events ++ revert_by later revert) }
     ensures acts { (history : History) (inverter now raw : ℕ) (before : Option ℕ) (events : List Timed)
         → HasFollowed history inverter now raw before events
@@ -72,7 +73,8 @@ pub fn limits_follow_the_timed_device()
         → HasFollowed history inverter now raw revert events → FollowsDevice history inverter now raw }
 {}
 
-/// A simulated inverter holds its limit so: as time passes, and where a write reaches it that it takes and that may act.
+/// A simulated inverter holds its limit so: as time passes, and where a write reaches it that it takes and that may
+/// act.
 pub fn banks_follow_the_timed_device()
     ensures passes { (bank : BankRecord) (history : History) (inverter : ℕ) (events : List Timed)
         → HasFollowed history inverter bank.last bank.raw bank.revert events

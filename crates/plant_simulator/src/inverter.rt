@@ -52,7 +52,12 @@ impl Model for Inverter {
 
     ghost Value = { InverterRecord };
 
-    ghost view = { λ i. record { held = i.limit.raw; due = i.limit.revert; line = i.line.items; strays = i.strays.items } };
+    ghost view = { λ i. record {
+      held = i.limit.raw;
+      due = i.limit.revert;
+      line = i.line.items;
+      strays = i.strays.items;
+    } };
 }
 
 /// Whether a write is past the last moment at which it may act.

@@ -124,7 +124,7 @@ abbrev OneReplay : Type 0
 OneReplay = (bytes : List ℕ) (a b : Option ℕ) (x y : List ℕ) → IsReplay bytes a x → IsReplay bytes b y → (a ≡ b) × (x ≡ y)
 
 abbrev OneFault : Type 0
-OneFault = (bytes : List ℕ) (f g : ReplayFault) → Explains f bytes → Explains g bytes → (f ≡ faults.NoMemory) ⊎ ((g ≡ faults.NoMemory) ⊎ (f ≡ g))
+OneFault = (bytes : List ℕ) (f g : ReplayFault) → Explains f bytes → Explains g bytes → f ≡ g
 
 -- what an end says of all bytes that the input told, where the input didn't fail
 abbrev Says : Ended → Change → List ℕ → Type 0
@@ -208,16 +208,8 @@ where_refused stands one ends.Done output bytes says fault is not_memory = absur
 where_refused stands one (ends.BookFull calls) output bytes says fault is not_memory = absurd (not_memory (stands bytes (Some calls) says.0 fault says.1 is))
 where_refused stands one ends.WriteFault output bytes says fault is not_memory = absurd (not_memory (stands bytes says.1.1.0 says.1.0 fault says.1.1.1 is))
 where_refused stands one ends.NoMemory output bytes says fault is not_memory = inr refl
-where_refused stands one (ends.BadLine line kind) output bytes says fault is not_memory = elim (one bytes (faults.BadLine line kind) fault says is) [
-  | inl none ↦ absurd cc
-  | inr (inl none) ↦ absurd (not_memory none)
-  | inr (inr same) ↦ inl (ap fault_end same)
-]
-where_refused stands one (ends.BadSite found) output bytes says fault is not_memory = elim (one bytes (faults.BadSite says.0) fault says.1 is) [
-  | inl none ↦ absurd cc
-  | inr (inl none) ↦ absurd (not_memory none)
-  | inr (inr same) ↦ inl (sym says.2 ∙ ap fault_end same)
-]
+where_refused stands one (ends.BadLine line kind) output bytes says fault is not_memory = inl (ap fault_end (one bytes (faults.BadLine line kind) fault says is))
+where_refused stands one (ends.BadSite found) output bytes says fault is not_memory = inl (sym says.2 ∙ ap fault_end (one bytes (faults.BadSite says.0) fault says.1 is))
 where_refused stands one ends.ReadFault output bytes says fault is not_memory = absurd says
 where_refused stands one (ends.TooLong limit) output bytes says fault is not_memory = absurd says
 where_refused stands one ends.BadWords output bytes says fault is not_memory = absurd says

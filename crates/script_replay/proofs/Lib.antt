@@ -1,3 +1,4 @@
+pub mod Refused
 pub mod Plays
 pub mod Once
 pub mod Books

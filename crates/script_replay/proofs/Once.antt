@@ -19,6 +19,8 @@ use Rattle.script_replay.specs.declared.replay.ReplayFault.{ReplayFault}
 use Rattle.script_replay.specs.declared.replay.ReplayFault.TheVariants as faults
 use Rattle.script_replay.specs.Chain.{Chain, first_chain, chain_after, chain_behind, IsDone, AreDone}
 use Rattle.script_replay.specs.Replay.{Reaches, IsReplay, Explains, HasRoom}
+use Rattle.script_replay.proofs.Refused.{openable_is, not_refused_of, of_script}
+use Rattle.std.proofs.lemmas.Option.{same_Some}
 
 -- the deeds of lines are one
 
@@ -139,23 +141,11 @@ replays_itself bytes full text p =
 
 -- where there is room
 
-openable_is : (site : SiteRecord) → IsOpenable site → open_fault site ≡ None
-openable_is site openable =
-    let some : eqb (inverters site) 0 ≡ false = ne_eqb (inverters site) 0 (omega (arith, openable.some)) in
-    let few : ltb 64 (inverters site) ≡ false = le-ltb 64 (inverters site) openable.few in
-    let fit : ltb site.cap (floors site) ≡ false = le-ltb site.cap (floors site) openable.floors in
-    rw (some, few, fit) refl
-
-no_fault : (fault : OpenFault) (found : Option OpenFault) → found ≡ Some fault → found ≡ None → ⊥
-no_fault fault None some none = absurd cc
-no_fault fault (Some other) some none = absurd cc
-
 pub not_refused : (bytes : List ℕ) (fault : ReplayFault) → HasRoom bytes → Explains fault bytes → fault ≡ faults.NoMemory
 not_refused bytes faults.NoMemory room explains = refl
 not_refused bytes (faults.BadLine line kind) room explains = absurd (not_both bytes room.script line kind room.is_script explains)
 not_refused bytes (faults.BadSite fault) room explains =
-    let same : explains.script ≡ room.script = one_script bytes explains.script room.script explains.is_script room.is_script in
-    absurd (no_fault fault (open_fault room.script.site) (ap (λ (s : ScriptRecord). open_fault s.site) (sym same) ∙ explains.refused) (openable_is room.script.site room.openable))
+    absurd (not_refused_of bytes room.script room.is_script (openable_is room.script.site room.openable) fault explains)
 
 pub not_full : (bytes : List ℕ) (calls : ℕ) (text : List ℕ) → HasRoom bytes → IsReplay bytes (Some calls) text → ⊥
 not_full bytes calls text room p =
@@ -170,23 +160,17 @@ pub replay_stands : (bytes : List ℕ) (full : Option ℕ) (text : List ℕ) (fa
 replay_stands bytes full text faults.NoMemory p explains = refl
 replay_stands bytes full text (faults.BadLine line kind) p explains = absurd (not_both bytes p.script line kind p.is_script explains)
 replay_stands bytes full text (faults.BadSite fault) p explains =
-    let same : explains.script ≡ p.script = one_script bytes explains.script p.script explains.is_script p.is_script in
-    absurd (no_fault fault (open_fault p.script.site) (ap (λ (s : ScriptRecord). open_fault s.site) (sym same) ∙ explains.refused) (openable_is p.script.site p.openable))
+    absurd (not_refused_of bytes p.script p.is_script (openable_is p.script.site p.openable) fault explains)
 
-some_fault : (found : Option OpenFault) (f g : OpenFault) → found ≡ Some f → found ≡ Some g → f ≡ g
-some_fault None f g p q = absurd cc
-some_fault (Some other) f g p q = cc
-
-pub one_fault : (bytes : List ℕ) (f g : ReplayFault) → Explains f bytes → Explains g bytes → (f ≡ faults.NoMemory) ⊎ ((g ≡ faults.NoMemory) ⊎ (f ≡ g))
-one_fault bytes faults.NoMemory g p q = inl refl
-one_fault bytes (faults.BadLine line kind) faults.NoMemory p q = inr (inl refl)
+pub one_fault : (bytes : List ℕ) (f g : ReplayFault) → Explains f bytes → Explains g bytes → f ≡ g
+one_fault bytes faults.NoMemory faults.NoMemory p q = refl
+one_fault bytes faults.NoMemory (faults.BadLine line kind) p q = absurd (p.0 line kind q)
+one_fault bytes faults.NoMemory (faults.BadSite fault) p q = absurd (p.1 fault q)
+one_fault bytes (faults.BadLine line kind) faults.NoMemory p q = absurd (q.0 line kind p)
 one_fault bytes (faults.BadLine line kind) (faults.BadLine other more) p q =
     let same = one_line bytes line other kind more p q in
-    inr (inr (λ i. faults.BadLine (same.0 i) (same.1 i)))
+    λ i. faults.BadLine (same.0 i) (same.1 i)
 one_fault bytes (faults.BadLine line kind) (faults.BadSite fault) p q = absurd (not_both bytes q.script line kind q.is_script p)
-one_fault bytes (faults.BadSite fault) faults.NoMemory p q = inr (inl refl)
+one_fault bytes (faults.BadSite fault) faults.NoMemory p q = absurd (q.1 fault p)
 one_fault bytes (faults.BadSite fault) (faults.BadLine line kind) p q = absurd (not_both bytes p.script line kind p.is_script q)
-one_fault bytes (faults.BadSite fault) (faults.BadSite other) p q =
-    let same : q.script ≡ p.script = one_script bytes q.script p.script q.is_script p.is_script in
-    let one : fault ≡ other = some_fault (open_fault p.script.site) fault other p.refused (ap (λ (s : ScriptRecord). open_fault s.site) (sym same) ∙ q.refused) in
-    inr (inr (ap faults.BadSite one))
+one_fault bytes (faults.BadSite fault) (faults.BadSite other) p q = ap faults.BadSite (same_Some fault other (sym p.refused ∙ of_script bytes q.script other q.is_script q.refused p.script p.is_script))

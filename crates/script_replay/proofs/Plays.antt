@@ -43,6 +43,7 @@ use Rattle.script_replay.specs.Playing.{Stands, LineFits, Played, Does, FindsFul
 use Rattle.script_replay.specs.declared.replay.ReplayFault.{ReplayFault}
 use Rattle.script_replay.specs.declared.replay.ReplayFault.TheVariants as faults
 use Rattle.script_replay.specs.Replay.{IsReplay, Explains, RefusesSite, fault_of}
+use Rattle.script_replay.proofs.Refused.{openable_is, no_memory}
 
 -- one more deed
 
@@ -414,9 +415,9 @@ not_past bytes first part old new text line fault one bad r = bad bytes (script_
 
 -- judging alone
 
-pub fault_explains : (fault : ScriptFault) (bytes : List ℕ) → reading.Explains fault bytes → Explains (fault_of fault) bytes
+pub fault_explains : (fault : ScriptFault) (bytes : List ℕ) → reading.IsBadLine fault bytes → Explains (fault_of fault) bytes
 fault_explains (readings.BadLine line kind) bytes why = why
-fault_explains readings.NoMemory bytes why = why
+fault_explains readings.NoMemory bytes why = absurd why
 
 -- from bytes to the text
 
@@ -442,7 +443,7 @@ begun bytes site start left part text has first added =
     }
 
 pub refuses : (bytes : List ℕ) (script : ScriptRecord) (fault : ReplayFault) → IsScript bytes script → RefusesSite script.site fault → Explains fault bytes
-refuses bytes script faults.NoMemory is refused = λ line kind bad. not_both bytes script line kind is bad
+refuses bytes script faults.NoMemory is refused = no_memory bytes script is refused
 refuses bytes script (faults.BadLine line kind) is refused = absurd refused
 refuses bytes script (faults.BadSite fault) is refused = record { script = script; is_script = is; refused = refused }
 
@@ -474,10 +475,14 @@ pub whole_replay : (bytes : List ℕ) (script : ScriptRecord) (first part : Part
 whole_replay bytes script first part text full begins r =
     is_replay bytes (script_with first r.lines) part text full r.is_script (subst IsOpenable (ap (λ (b : PartRecord). b.site) (sym begins.0)) begins.1) r.ends
 
+-- the site of what was played opens a book
+played_openable : (script : ScriptRecord) (count : ℕ) (part : PartRecord) (text : List ℕ) → Played script count part text → IsOpenable script.site
+played_openable script count part text p = subst IsOpenable (site_is script count part text p) p.stands.behind.book.openable
+
 pub none_bad : (bytes : List ℕ) (first part : PartRecord) (old new : Lines) (text : List ℕ) (line : Line) → LineRead old line new → AreLast new → IsReplayed bytes first old part text → Explains faults.NoMemory bytes
-none_bad bytes first part old new text line one last r number kind bad =
+none_bad bytes first part old new text line one last r =
     let rest = last bytes (script_with first (r.done ++ line ∷ [])) (one.goes_on bytes (script_with first r.done) r.read) in
-    not_both bytes _ number kind rest.1 bad
+    no_memory bytes _ rest.1 (openable_is first.site (played_openable (script_with first r.done) (length r.done) part text r.played))
 
 pub refuses_rest : (bytes : List ℕ) (script : ScriptRecord) (left : Lines) (fault : ReplayFault) → HasRead bytes script left → AreLast left → RefusesSite script.site fault → Explains fault bytes
 refuses_rest bytes script left fault has last refused =

@@ -84,14 +84,16 @@ bytes_of lines = lines.rows.whole.now
 
 -- Some lines of a script were read and done, and its lines that are left are these. The plant was opened as the
 -- first one.
-pub record IsReplayed (bytes : List ℕ) (first : PartRecord) (lines : Lines) (part : PartRecord) (text : List ℕ) : Type 0 where
+pub record IsReplayed
+    (bytes : List ℕ) (first : PartRecord) (lines : Lines) (part : PartRecord) (text : List ℕ) : Type 0 where
   pub done : List Line
   pub read : HasRead bytes (script_with first done) lines
   pub played : Played (script_with first done) (length done) part text
 
 -- why a script isn't replayed further
 abbrev pub FaultExplained : Lines → ReplayFault → Type 0
-FaultExplained lines fault = (bytes : List ℕ) (script : ScriptRecord) → HasRead bytes script lines → Explains fault bytes
+FaultExplained lines fault =
+    (bytes : List ℕ) (script : ScriptRecord) → HasRead bytes script lines → Explains fault bytes
 
 -- what came of reading one more line
 abbrev pub NextLine : Lines → Lines → Result (Option Line) ReplayFault → Type 0
@@ -107,7 +109,8 @@ pub record IsReplayedWhole (bytes : List ℕ) (first part : PartRecord) (text : 
 
 -- the empty book of a new life of the same site
 abbrev pub IsNextLife : PartRecord → ℕ → PartRecord → Type 0
-IsNextLife old at next = (next ≡ record { site = old.site; start = at; carry = None; entries = [] }) × IsOpenable next.site
+IsNextLife old at next =
+    (next ≡ record { site = old.site; start = at; carry = None; entries = [] }) × IsOpenable next.site
 
 -- the empty book of the first life of a script
 abbrev pub IsFirstLife : ScriptRecord → PartRecord → Type 0

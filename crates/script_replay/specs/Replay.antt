@@ -48,9 +48,13 @@ RefusesSite site faults.NoMemory = open_fault site ≡ None
 RefusesSite site (faults.BadLine line kind) = ⊥
 RefusesSite site (faults.BadSite fault) = open_fault site ≡ Some fault
 
--- why a script isn't replayed: for want of memory only where it has no bad line
+-- no script that the bytes spell has a site that is refused
+abbrev pub HasNoBadSite : List ℕ → Type 0
+HasNoBadSite bytes = (fault : OpenFault) → IsRefused bytes fault → ⊥
+
+-- why a script isn't replayed: for want of memory only where it has no bad line, and its site is refused for nothing
 abbrev pub Explains : ReplayFault → List ℕ → Type 0
-Explains faults.NoMemory bytes = HasNoBadLine bytes
+Explains faults.NoMemory bytes = HasNoBadLine bytes × HasNoBadSite bytes
 Explains (faults.BadLine line kind) bytes = IsFirstBadLine bytes line kind
 Explains (faults.BadSite fault) bytes = IsRefused bytes fault
 

@@ -1,4 +1,4 @@
-ghost use Rattle.std.specs.Prelude.{◌≡◌, ◌⊎◌, ◌≤◌, ℕ, List, ◌++◌, length, Option, None, Some};
+ghost use Rattle.std.specs.Prelude.{◌≡◌, ◌≤◌, ℕ, List, ◌++◌, length, Option, None, Some};
 ghost use Rattle.plant_book.specs.Book.{BookRecord};
 ghost use Rattle.plant_book.specs.Answered.{IsBook};
 ghost use Rattle.script_text.specs.Text.{book_text};
@@ -12,8 +12,7 @@ pub fn one_replay()
         → (a ≡ b) × (x ≡ y) }
     ensures not_refused { (bytes : List ℕ) (full : Option ℕ) (text : List ℕ) (fault : ReplayFault)
         → IsReplay bytes full text → Explains fault bytes → fault ≡ ReplayFault.NoMemory }
-    ensures one_fault { (bytes : List ℕ) (f g : ReplayFault) → Explains f bytes → Explains g bytes
-        → (f ≡ ReplayFault.NoMemory) ⊎ ((g ≡ ReplayFault.NoMemory) ⊎ (f ≡ g)) }
+    ensures one_fault { (bytes : List ℕ) (f g : ReplayFault) → Explains f bytes → Explains g bytes → f ≡ g }
     ensures itself { (bytes : List ℕ) (full : Option ℕ) (text : List ℕ) → IsReplay bytes full text
         → IsReplay text None text }
 {}

@@ -80,8 +80,7 @@ fn first_life(alloc: Global, site: Site, start: u64) -> Result<(Plant, Vec<u8>),
 
 /// Replays a script: does its lines one after another as they are read, and writes the text of its lives.
 ///
-/// A bad line comes before want of memory, and a site that is refused before want of memory for what is done behind
-/// the head.
+/// A bad line comes before a site that is refused, and both before want of memory.
 pub fn replay_script(alloc: Global, bytes: &[u8]) -> Result<Replayed, ReplayFault>
     requires { length bytes.now ≤ SCRIPT_BYTES_MAX }
     ensures text { IfOk result (λ replayed. IsReplay bytes.now replayed.full replayed.text.items) }

@@ -1,8 +1,8 @@
 -- A text that is written is a script again.
-use Rattle.std.proofs.Common.{◌≡◌, ℕ, zero, suc, ◌+◌, ◌-◌, ◌/◌, ◌%◌, ◌^◌, ◌<◌, ◌≤◌, ◌⊎◌, inl, inr, Bool, true, false, cond, eqb, ltb, List, [], ◌∷◌, ◌++◌, length, map, Option, Some, None, refl, sym, ap, subst, ◌∙◌, arith, append_assoc, length-append, ℤ, pos, negsuc}
-use Rattle.std.specs.Prelude.{codes, IfSome, ◌≤ℤ◌}
+use Rattle.std.proofs.Common.{◌≡◌, ℕ, zero, suc, ◌+◌, ◌/◌, ◌%◌, ◌^◌, ◌<◌, ◌≤◌, inl, inr, Bool, true, false, cond, eqb, ltb, List, [], ◌∷◌, ◌++◌, map, Some, refl, sym, ap, subst, ◌∙◌, arith, append_assoc, length-append, ℤ, pos, negsuc}
+use Rattle.std.specs.Prelude.{codes, ◌≤ℤ◌}
 use Rattle.std.specs.List.{flat_map, AllByRecursion}
-use Rattle.std.specs.Fmt.{decimal, digits, digits_onto, digit_glyph, signed_decimal}
+use Rattle.std.specs.Fmt.{decimal, digits, digits_onto, digit_glyph}
 use Rattle.std.specs.Str.Lines.{lines}
 use Rattle.std.proofs.lemmas.Bool.{ne_eqb, cases_Bool}
 use Rattle.std.proofs.lemmas.Int.{ints}
@@ -19,7 +19,7 @@ use Rattle.plant_book.specs.Site.{SiteRecord}
 use Rattle.script_text.specs.declared.line.Line.{Line}
 use Rattle.script_text.specs.declared.line.Line.TheVariants as lines_of
 use Rattle.script_text.specs.Words.{Word, Text, Number, Signed, IsWord, AreWords, spaced, written, line_text}
-use Rattle.script_text.specs.Grammar.{Statement, Site, Inverter, Begin, Says, policy_word, call_words, reply_words, statement_words, IsUnread, IsSpelled}
+use Rattle.script_text.specs.Grammar.{Statement, Site, Inverter, Begin, Says, policy_word, call_words, reply_words, statement_words, IsSpelled}
 use Rattle.script_text.specs.Script.{ScriptRecord, Say, statements_of, InRange, EachMayFollow, IsScript, site_statement, inverter_statement, head_statements, script_statements}
 use Rattle.script_text.specs.Text.{statement_text, inverters_text, head_text, replied_text, Deed, Entered, Begun, Rolled, deed_line, deed_text, lives_text}
 use Rattle.script_text.specs.Reading.{row_at, behind_row}

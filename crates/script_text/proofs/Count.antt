@@ -1,13 +1,13 @@
 -- A script has no more lines than bytes.
-use Rattle.std.proofs.Common.{◌≡◌, ℕ, zero, suc, ◌+◌, ◌<◌, ◌≤◌, List, [], ◌∷◌, ◌++◌, length, map, Option, Some, None, refl, sym, ap, subst, ◌∙◌, arith, length-append}
+use Rattle.std.proofs.Common.{ℕ, zero, suc, ◌≤◌, List, [], ◌∷◌, length, map, Option, Some, None, ap, arith, length-append}
 use Rattle.std.specs.Str.Lines.{lines}
 use Rattle.std.proofs.lemmas.List.{length-map}
 use Rattle.script_text.specs.declared.line.Line.{Line}
 use Rattle.script_text.specs.declared.lines.Lines.{Lines}
 use Rattle.script_text.specs.Reader.{HasRead}
 use Rattle.script_text.specs.Grammar.{Statement, Says}
-use Rattle.script_text.specs.Script.{ScriptRecord, Say, statements_of, IsScript, head_statements, script_statements}
-use Rattle.script_text.specs.Reading.{row_at, behind_row}
+use Rattle.script_text.specs.Script.{ScriptRecord, Say, statements_of, IsScript, head_statements}
+use Rattle.script_text.specs.Reading.{behind_row}
 use Rattle.script_text.proofs.LineEnds.{lines_first}
 use Rattle.script_text.proofs.Taken.{behind_short}
 

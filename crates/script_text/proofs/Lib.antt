@@ -9,5 +9,6 @@ pub mod Once
 pub mod Back
 pub mod Count
 pub mod Reader
+mod Counted
 pub mod Comments
 pub mod Books

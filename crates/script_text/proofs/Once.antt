@@ -1,5 +1,5 @@
 -- Bytes are one script at most, or have one first bad line.
-use Rattle.std.proofs.Common.{◌≡◌, ℕ, suc, ◌+◌, ◌<◌, ◌≤◌, ◌⊎◌, inl, inr, List, [], ◌∷◌, ◌++◌, length, map, Option, Some, None, refl, sym, ap, subst, ◌∙◌, arith, append_assoc, length-append, ℤ, pos}
+use Rattle.std.proofs.Common.{◌≡◌, ℕ, ◌<◌, ◌≤◌, inl, inr, List, [], ◌∷◌, ◌++◌, length, map, Option, Some, None, refl, sym, ap, subst, ◌∙◌, arith, append_assoc, ℤ, pos}
 use Rattle.std.specs.Option.{option_to_list}
 use Rattle.std.specs.Str.Lines.{lines}
 use Rattle.std.proofs.Props.{props}
@@ -11,12 +11,11 @@ use Rattle.limiter_num.specs.declared.rating.Rating.{Rating}
 use Rattle.limiter_num.specs.Milliwatts.{IsRated, full_of}
 use Rattle.share_policy.specs.declared.claim.Policy.{Policy}
 use Rattle.plant_book.specs.declared.site.Unit as unit
-use Rattle.plant_book.specs.Site.{SiteRecord}
 use Rattle.script_text.specs.declared.line.Line.{Line}
 use Rattle.script_text.specs.declared.line.LineKind.{LineKind}
 use Rattle.script_text.specs.declared.line.LineKind.TheVariants as kinds
-use Rattle.script_text.specs.Grammar.{Statement, Site, Inverter, Begin, Says, IsSpelled, IsComment}
-use Rattle.script_text.specs.Script.{ScriptRecord, Say, statements_of, begin_on, begins_in, MayFollow, Lacks, EachMayFollow, IsScript, IsBad, IsFirstBadLine, site_statement, inverter_statement, head_statements, script_statements}
+use Rattle.script_text.specs.Grammar.{Statement, Site, Inverter, Begin, Says}
+use Rattle.script_text.specs.Script.{ScriptRecord, Say, statements_of, begin_on, begins_in, MayFollow, Lacks, EachMayFollow, IsScript, IsBad, IsFirstBadLine, inverter_statement, script_statements}
 use Rattle.script_text.proofs.Spelled.{spelled_once, no_comment}
 use Rattle.script_text.proofs.Taken.{no_begins}
 

@@ -1,5 +1,5 @@
 -- Numbers that are in range are read as they are.
-use Rattle.std.proofs.Common.{◌≡◌, ℕ, suc, ◌+◌, ◌-◌, ◌^◌, ◌<◌, ◌≤◌, min, cond, ltb, ◌||◌, ◌⊎◌, inl, inr, List, Option, Some, None, refl, sym, ap, subst, ◌∙◌, arith, ℤ, pos, negsuc}
+use Rattle.std.proofs.Common.{◌≡◌, ℕ, suc, ◌-◌, ◌≤◌, min, ltb, ◌||◌, inl, inr, List, Option, Some, None, refl, sym, ap, subst, arith, ℤ, pos, negsuc}
 use Rattle.std.specs.Prelude.{◌≤ℤ◌}
 use Rattle.std.proofs.lemmas.Int.{ints}
 use Rattle.std.proofs.lemmas.Bool.Decides.{nat_tests}
@@ -13,9 +13,9 @@ use Rattle.script_text.specs.declared.line.Line.TheVariants as lines
 use Rattle.script_text.specs.declared.line.LineKind.{LineKind}
 use Rattle.script_text.specs.declared.line.LineKind.TheVariants as kinds
 use Rattle.script_text.specs.Grammar.{Statement, Site, Inverter, Begin, Says}
-use Rattle.script_text.specs.Script.{HasPlace, InRange, MayFollow, Lacks}
+use Rattle.script_text.specs.Script.{HasPlace, InRange, Lacks}
 use Rattle.script_text.specs.Reading.{number_most, size_most, statement_of, cut, fields_of}
-use Rattle.script_text.proofs.LineEnds.{chosen, some, some_is}
+use Rattle.script_text.proofs.LineEnds.{chosen}
 
 abbrev pub capped : Statement → Statement
 capped statement = statement_of (fields_of number_most size_most statement)

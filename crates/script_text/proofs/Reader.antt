@@ -1,19 +1,22 @@
 -- Reading a script line by line.
-use Rattle.std.proofs.Common.{◌≡◌, ℕ, ◌+◌, ◌^◌, ◌<◌, List, [], ◌∷◌, ◌++◌, length, map, Option, Some, None, Result, Ok, Err, Bool, true, false, refl, sym, ap, subst, ◌∙◌, append_assoc}
+use Rattle.std.proofs.Common.{◌≡◌, ℕ, ◌^◌, ◌<◌, List, [], ◌∷◌, ◌++◌, length, map, Option, Some, None, Ok, true, false, refl, sym, ap, subst, ◌∙◌, append_assoc}
 use denote.Ref.{Bor}
 use Rattle.std.specs.Prelude.{is_some}
 use Rattle.std.proofs.lemmas.List.{append-nil, map_push}
 use Rattle.plant_book.specs.declared.site.Unit as unit
 use Rattle.plant_book.specs.Site.{SiteRecord}
+use Rattle.plant_book.proofs.Inverters.{floors-is}
 use Rattle.script_text.specs.declared.line.Line.{Line}
 use Rattle.script_text.specs.declared.head.SiteLine as sites
 use Rattle.script_text.specs.declared.rows.Rows.{Rows}
 use Rattle.script_text.specs.declared.lines.Lines.{Lines}
 use Rattle.script_text.specs.declared.fault.ScriptFault.{ScriptFault}
-use Rattle.script_text.specs.Grammar.{Statement, Begin, Says}
-use Rattle.script_text.specs.Script.{ScriptRecord, HasNoBadLine, last_of, moment_on, site_statement, inverter_statement, head_statements, script_statements, IsScript}
-use Rattle.script_text.specs.Progress.{Progress, IsAt, Explains, SiteTaken, UnitsTaken, UnitsCounted, IsBegun, OneLineTaken, LineFault}
-use Rattle.script_text.specs.Reader.{CanGoOn, HasRead, LineRead, NextRead, FaultExplained, AreLast, with_lines}
+use Rattle.script_text.specs.Grammar.{Statement, Says}
+use Rattle.script_text.specs.Script.{ScriptRecord, HasNoBadLine, last_of, moment_on, site_statement, head_statements, script_statements, IsScript}
+use Rattle.script_text.specs.Progress.{Progress, IsAt, IsBadLine, SiteTaken, UnitsTaken, IsBegun, OneLineTaken, LineFault}
+use Rattle.script_text.specs.Reader.{HasRead, LineRead, NextRead, IsBadFrom, AreLast, with_lines}
+use Rattle.script_text.specs.Size.{UnitsCounted, HasSize}
+use Rattle.script_text.specs.declared.size.SiteSize as sizes
 use Rattle.script_text.proofs.Once.{not_both}
 use Rattle.script_text.proofs.Steps.{begun_on}
 use Rattle.script_text.proofs.Taken.{first_rows, lines_begun, head_begun, whole_script}
@@ -61,8 +64,8 @@ no_line old ends bytes script has =
     let last = ends (script_statements script) has.is_at in
     whole_script bytes script (script_statements script) last.0 (subst (λ (w : List ℕ). Progress w [] (script_statements script) last.0) has.whole last.1) refl
 
-pub no_more : (old : Lines) (fault : ScriptFault) → LineFault old.rows old.inverters old.latest fault → FaultExplained old fault
-no_more old fault bad = λ bytes script has. subst (λ (w : List ℕ). Explains fault w) has.whole (bad (script_statements script) has.is_at has.is_begun)
+pub no_more : (old : Lines) (fault : ScriptFault) → LineFault old.rows old.inverters old.latest fault → IsBadFrom old fault
+no_more old fault bad = λ bytes script has. subst (λ (w : List ℕ). IsBadLine fault w) has.whole (bad (script_statements script) has.is_at has.is_begun)
 
 -- lines one behind the other
 
@@ -92,7 +95,25 @@ none_bad bytes script left last has line kind bad =
 abbrev site_counted : sites.SiteLine → List unit.Unit → SiteRecord
 site_counted site units = record { cap = site.cap; rules = site.rules; policy = site.policy; room = site.room; units = units }
 
-pub head_counted : (bytes : Bor (List ℕ)) (rows behind : Rows) (site : sites.SiteLine) (start inverters : ℕ) → SiteTaken (first_rows bytes) site rows → (counted : UnitsCounted rows inverters start behind)
-    → HasRead bytes.now (record_of (site_counted site counted.units) start []) (record { rows = behind; inverters = inverters; latest = start })
-head_counted bytes rows behind site start inverters taken counted =
-    head_read bytes rows behind site counted.units start inverters (site_counted site counted.units) taken counted.taken counted.inverters_are refl
+pub head_counted : (bytes : Bor (List ℕ)) (rows behind : Rows) (site : sites.SiteLine) (size : sizes.SiteSize) (start : ℕ) → SiteTaken (first_rows bytes) site rows → (counted : UnitsCounted rows size start behind)
+    → HasRead bytes.now (record_of (site_counted site counted.units) start []) (record { rows = behind; inverters = size.inverters; latest = start })
+head_counted bytes rows behind site size start taken counted =
+    head_read bytes rows behind site counted.units start size.inverters (site_counted site counted.units) taken counted.taken counted.counted.inverters_are refl
+
+-- the size of the site of a whole script
+pub has_size : (bytes : Bor (List ℕ)) (rows behind : Rows) (site : sites.SiteLine) (size : sizes.SiteSize) (start : ℕ) (left : Lines) → SiteTaken (first_rows bytes) site rows → UnitsCounted rows size start behind → size.cap ≡ site.cap
+    → left ≡ record { rows = behind; inverters = size.inverters; latest = start } → AreLast left → HasSize bytes.now size
+has_size bytes rows behind site size start left taken counted cap is last =
+    let own : SiteRecord = site_counted site counted.units in
+    let has : HasRead bytes.now (record_of own start []) left = subst (λ (l : Lines). HasRead bytes.now (record_of own start []) l) (sym is) (head_counted bytes rows behind site size start taken counted) in
+    let rest = last bytes.now (record_of own start []) has in
+    record {
+      script = with_lines (record_of own start []) rest.0;
+      is_script = rest.1;
+      size_is = record { cap_is = cap; inverters_are = counted.counted.inverters_are; floors_are = λ few. counted.counted.floors_are few ∙ sym (floors-is own) };
+      few = subst (λ (n : ℕ). n < 2 ^ 32) (sym counted.counted.inverters_are) counted.taken.count;
+    }
+
+-- bytes whose site has a size have no bad line
+pub sized_none_bad : (bytes : List ℕ) (size : sizes.SiteSize) → HasSize bytes size → HasNoBadLine bytes
+sized_none_bad bytes size has line kind bad = not_both bytes has.script line kind has.is_script bad

@@ -1,19 +1,17 @@
 -- What is read of a row is what it spells, and what a row spells is read of it.
-use Rattle.std.proofs.Common.{◌≡◌, ℕ, suc, ◌+◌, ◌-◌, ◌≤◌, min, Bool, true, false, cond, eqb, ltb, ◌||◌, ◌&&◌, ◌⊎◌, List, [], ◌∷◌, ◌++◌, length, Option, Some, None, refl, sym, ap, subst, ◌∙◌, arith, inl, inr, ℤ, pos, negsuc, append_assoc, sum, map}
+use Rattle.std.proofs.Common.{◌≡◌, ℕ, suc, ◌+◌, ◌≤◌, min, Bool, true, false, cond, eqb, ◌&&◌, List, [], ◌∷◌, ◌++◌, Option, Some, None, refl, sym, ap, subst, ◌∙◌, arith, inl, inr, ℤ, pos, negsuc, append_assoc, sum, map}
 use Rattle.std.specs.Prelude.{codes}
 use Rattle.std.specs.List.{flat_map}
 use Rattle.std.proofs.lemmas.Bool.{ne_eqb, cases_Bool}
 use Rattle.share_policy.specs.declared.claim.Policy.{Policy}
 use Rattle.share_policy.specs.declared.claim.Policy.TheVariants as policies
-use Rattle.plant_book.specs.declared.call.Call.{Call}
 use Rattle.plant_book.specs.declared.call.Call.TheVariants as calls
-use Rattle.script_text.specs.declared.line.Line.{Line}
 use Rattle.script_text.specs.declared.line.Line.TheVariants as lines
 use Rattle.script_text.specs.declared.fields.Fields.{Fields}
 use Rattle.script_text.specs.declared.fields.Fields.TheVariants as fields
 use Rattle.script_text.specs.Words.{Word, Text, Number, Signed, IsDigits, IsNumber, IsSigned, IsWord, AreWords, spaced}
-use Rattle.script_text.specs.Grammar.{Statement, Site, Inverter, Begin, Says, policy_word, statement_words, IsRemark, IsUnread, IsSpelled, IsComment}
-use Rattle.script_text.specs.Reading.{◌>>=◌, rest_after, reading, begins_with, row_at, behind_row, end_at, next_at, signed_at, policy_at, none_at, one_at, two_at, three_at, four_at, site_at, inverter_at, fields_at, statement_of, cut, fields_of}
+use Rattle.script_text.specs.Grammar.{Statement, Site, Inverter, Begin, Says, policy_word, statement_words, IsUnread, IsSpelled, IsComment}
+use Rattle.script_text.specs.Reading.{rest_after, begins_with, row_at, behind_row, end_at, next_at, signed_at, policy_at, none_at, one_at, two_at, three_at, four_at, site_at, inverter_at, fields_at, statement_of, cut, fields_of}
 use Rattle.script_text.proofs.LineEnds.{some, some_is, none_some, is_plain, plain_more, row_past, behind_past, end_taken, ending_of, row_parts, row_ends, row_lacks, lacks_feed, lacks_back, end_found, unread_ends}
 use Rattle.script_text.proofs.Numbers.{bind_some, after_is, behind_is, no_digit, next_taken, next_found, signed_taken, signed_found}
 

@@ -1,14 +1,14 @@
 -- Going on row by row.
-use Rattle.std.proofs.Common.{◌≡◌, ℕ, suc, ◌+◌, ◌-◌, ◌^◌, ◌<◌, ◌≤◌, ◌⊎◌, inl, inr, min, List, [], ◌∷◌, ◌++◌, length, map, Option, Some, None, refl, sym, ap, subst, ◌∙◌, arith, append_assoc, length-append}
+use Rattle.std.proofs.Common.{◌≡◌, ℕ, ◌+◌, ◌≤◌, ◌⊎◌, List, [], ◌∷◌, ◌++◌, length, Option, Some, None, refl, sym, ap, subst, ◌∙◌, arith, append_assoc, length-append}
 use Rattle.std.specs.List.{flat_map}
 use Rattle.std.specs.Option.{option_to_list}
 use Rattle.std.specs.Str.Lines.{lines}
-use Rattle.std.proofs.lemmas.List.{append-nil, map_push}
+use Rattle.std.proofs.lemmas.List.{append-nil}
 use Rattle.std.proofs.lemmas.List.Concat.{flat_map-append}
 use Rattle.script_text.specs.declared.line.Line.{Line}
 use Rattle.script_text.specs.declared.line.LineKind.{LineKind}
 use Rattle.script_text.specs.declared.line.LineKind.TheVariants as kinds
-use Rattle.script_text.specs.Grammar.{Statement, Site, Inverter, Begin, Says, IsSpelled, IsComment}
+use Rattle.script_text.specs.Grammar.{Statement, Says, IsSpelled, IsComment}
 use Rattle.script_text.specs.Script.{Say, statements_of, inverter_on, inverters_in, moment_on, last_of, latest_in, begin_on, begins_in, MayFollow, Lacks, EachMayFollow, IsBad, IsFirstBadLine}
 use Rattle.script_text.specs.Reading.{row_at, behind_row}
 use Rattle.script_text.specs.Progress.{Progress, IsBegun}

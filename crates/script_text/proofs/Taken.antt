@@ -1,17 +1,12 @@
 -- What the reader took.
-use Rattle.std.proofs.Common.{◌≡◌, ℕ, suc, ◌+◌, ◌-◌, ◌^◌, ◌<◌, ◌≤◌, ◌⊎◌, inl, inr, min, Bool, true, false, cond, eqb, ◌&&◌, List, [], ◌∷◌, ◌++◌, length, map, Option, Some, None, refl, sym, ap, subst, ◌∙◌, arith, append_assoc, length-append}
+use Rattle.std.proofs.Common.{◌≡◌, ℕ, suc, ◌+◌, ◌-◌, ◌^◌, ◌<◌, ◌≤◌, inl, inr, Bool, false, eqb, ◌&&◌, List, [], ◌∷◌, ◌++◌, length, map, Some, None, refl, sym, ap, subst, ◌∙◌, arith, length-append}
 use denote.Ref.{Bor}
 use Rattle.std.specs.List.{flat_map}
-use Rattle.std.specs.Str.Lines.{lines}
-use Rattle.std.proofs.lemmas.Bool.{cases_Bool, eqb-true, eq-eqb}
+use Rattle.std.proofs.lemmas.Bool.{cases_Bool}
 use Rattle.std.proofs.lemmas.Bool.Decides.{nat_tests}
 use Rattle.std.proofs.lemmas.List.{append-nil, map_push}
-use Rattle.limiter_num.specs.declared.rules.Rules.{Rules}
-use Rattle.share_policy.specs.declared.claim.Policy.{Policy}
 use Rattle.plant_book.specs.declared.site.Unit as unit
-use Rattle.plant_book.specs.Site.{SiteRecord}
 use Rattle.script_text.specs.declared.line.Line.{Line}
-use Rattle.script_text.specs.declared.line.LineKind.{LineKind}
 use Rattle.script_text.specs.declared.line.LineKind.TheVariants as kinds
 use Rattle.script_text.specs.declared.fields.Fields.{Fields}
 use Rattle.script_text.specs.declared.head.HeadLine.{HeadLine}
@@ -19,14 +14,15 @@ use Rattle.script_text.specs.declared.head.HeadLine.TheVariants as heads
 use Rattle.script_text.specs.declared.head.SiteLine as sites
 use Rattle.script_text.specs.declared.rows.Rows.{Rows}
 use Rattle.script_text.specs.declared.fault.ScriptFault.{ScriptFault}
-use Rattle.script_text.specs.Grammar.{Statement, Site, Inverter, Begin, Says, IsSpelled, IsComment}
-use Rattle.script_text.specs.Script.{ScriptRecord, Say, last_of, inverter_on, inverters_in, moment_on, latest_in, begin_on, begins_in, MayFollow, Lacks, EachMayFollow, IsFirstBadLine, IsScript, site_statement, inverter_statement, head_statements, script_statements}
+use Rattle.script_text.specs.declared.fault.ScriptFault.TheVariants as faults
+use Rattle.script_text.specs.Grammar.{Statement, Begin, Says, IsComment}
+use Rattle.script_text.specs.Script.{ScriptRecord, Say, inverter_on, inverters_in, latest_in, begin_on, begins_in, MayFollow, Lacks, EachMayFollow, IsFirstBadLine, IsScript, site_statement, inverter_statement, script_statements}
 use Rattle.script_text.specs.Reading.{number_most, size_most, begins_with, row_at, behind_row, fields_at, statement_of, fields_of}
-use Rattle.script_text.specs.Progress.{Progress, IsAt, Said, Explains, HeadFault, IsFurther, SiteTaken, HeadLineTaken, HeadLineFault, head_statement, UnitsTaken, UnitsFault, IsBegun, OneLineTaken, LineFault, LinesTaken}
+use Rattle.script_text.specs.Progress.{Progress, IsAt, Said, Explains, IsBadLine, IsFurther, SiteTaken, HeadLineTaken, HeadLineFault, head_statement, UnitsTaken, UnitsFault, IsBegun, OneLineTaken}
 use Rattle.script_text.proofs.LineEnds.{none_some}
 use Rattle.script_text.proofs.Spelled.{fields_taken, row_found, spelled_once}
 use Rattle.script_text.proofs.Ranges.{capped, capped_exact, lacks_exact}
-use Rattle.script_text.proofs.Steps.{begins, statement_on, bad_row, ends_early, begins_more, latest_more, inverters_more, begun_on}
+use Rattle.script_text.proofs.Steps.{begins, statement_on, bad_row, ends_early, begins_more, latest_more, inverters_more}
 
 pub comment_is : (byte : ℕ) (rest : List ℕ) → (byte ≡ 35 → IsComment (row_at (byte ∷ rest))) × (IsComment (row_at (byte ∷ rest)) → byte ≡ 35)
 comment_is byte rest = (
@@ -155,7 +151,7 @@ pub units_fault : (first rows : Rows) (units : List unit.Unit) (fault : ScriptFa
     → ((site : Statement) → begins_in (site ∷ []) ≡ [] → IsAt first (site ∷ []) → IsAt rows (site ∷ map inverter_statement units))
     → UnitsFault first fault
 units_fault first rows units fault bad whole before = λ site none at.
-    subst (λ (w : List ℕ). Explains fault w) whole (bad (site ∷ map inverter_statement units) (before site none at) (omega arith) (head_begins site units none))
+    subst (λ (w : List ℕ). IsBadLine fault w) whole (bad (site ∷ map inverter_statement units) (before site none at) (omega arith) (head_begins site units none))
 
 -- the whole
 
@@ -195,6 +191,11 @@ fewer bytes rest number numbers some read few =
     let found = fields_taken number_most size_most bytes (numbers, rest) most_big size_small read in
     omega (arith, few, behind_short bytes some, ap length found.row.behind)
 
+-- a bad line, which comes before want of memory
+pub bad_explains : (fault : ScriptFault) (bytes : List ℕ) → IsBadLine fault bytes → Explains fault bytes
+bad_explains faults.NoMemory bytes bad = absurd bad
+bad_explains (faults.BadLine line kind) bytes bad = bad
+
 -- the parts of a script one behind the other
 
 abbrev pub first_rows : Bor (List ℕ) → Rows
@@ -203,9 +204,11 @@ first_rows bytes = record { whole = bytes; rest = bytes; number = 1 }
 abbrev pub line_of_site : sites.SiteLine → Statement
 line_of_site site = site_statement site.cap site.rules site.policy site.room
 
-pub units_explain : (bytes : Bor (List ℕ)) (rows : Rows) (site : sites.SiteLine) (fault : ScriptFault) → SiteTaken (first_rows bytes) site rows → UnitsFault rows fault → Explains fault bytes.now
-units_explain bytes rows site fault taken bad =
-    subst (λ (w : List ℕ). Explains fault w) taken.further.whole (bad (line_of_site site) refl (taken.is_at (begins bytes.now)))
+-- why there are no units behind a site line is why the bytes are no script
+pub units_explain : (P : ScriptFault → List ℕ → Type 0) (bytes : Bor (List ℕ)) (rows : Rows) (site : sites.SiteLine) (fault : ScriptFault) → SiteTaken (first_rows bytes) site rows
+    → ((site : Statement) → begins_in (site ∷ []) ≡ [] → IsAt rows (site ∷ []) → P fault rows.whole.now) → P fault bytes.now
+units_explain P bytes rows site fault taken bad =
+    subst (λ (w : List ℕ). P fault w) taken.further.whole (bad (line_of_site site) refl (taken.is_at (begins bytes.now)))
 
 pub lines_begun : (bytes : Bor (List ℕ)) (rows behind : Rows) (site : sites.SiteLine) (units : List unit.Unit) (start : ℕ) → SiteTaken (first_rows bytes) site rows → UnitsTaken rows units start behind
     → IsAt behind (line_of_site site ∷ map inverter_statement units ++ Begin start ∷ [])

@@ -6,3 +6,4 @@ pub mod Reading
 pub mod Progress
 pub mod Lines
 pub mod Reader
+pub mod Size

@@ -34,6 +34,11 @@ abbrev pub Explains : ScriptFault → List ℕ → Type 0
 Explains faults.NoMemory bytes = HasNoBadLine bytes
 Explains (faults.BadLine line kind) bytes = IsFirstBadLine bytes line kind
 
+-- why bytes that were read without taking memory are no script: their first bad line
+abbrev pub IsBadLine : ScriptFault → List ℕ → Type 0
+IsBadLine faults.NoMemory bytes = ⊥
+IsBadLine (faults.BadLine line kind) bytes = IsFirstBadLine bytes line kind
+
 -- the rows that are still to be read, behind these statements
 abbrev pub IsAt : Rows → List Statement → Type 0
 IsAt rows statements = Progress rows.whole.now rows.rest.now statements rows.number
@@ -80,7 +85,7 @@ JudgesHead (Some line) statement = (head_statement line ≡ statement) × InRang
 -- why there is no next line of a head, where there was no begin
 abbrev pub HeadFault : Rows → ScriptFault → Type 0
 HeadFault rows fault =
-    (before : List Statement) → IsAt rows before → begins_in before ≡ [] → Explains fault rows.whole.now
+    (before : List Statement) → IsAt rows before → begins_in before ≡ [] → IsBadLine fault rows.whole.now
 
 -- the rows behind are those of the same bytes, further on
 pub record IsFurther (rows behind : Rows) : Type 0 where
@@ -103,7 +108,7 @@ pub record HeadLineTaken (rows : Rows) (line : HeadLine) (behind : Rows) : Type 
 abbrev pub HeadLineFault : Rows → ScriptFault → Type 0
 HeadLineFault rows fault =
     (before : List Statement) → IsAt rows before → 1 ≤ length before → begins_in before ≡ []
-    → Explains fault rows.whole.now
+    → IsBadLine fault rows.whole.now
 
 -- the inverters and the begin were read behind the site line
 pub record UnitsTaken (rows : Rows) (units : List unit.Unit) (start : ℕ) (behind : Rows) : Type 0 where
@@ -113,14 +118,14 @@ pub record UnitsTaken (rows : Rows) (units : List unit.Unit) (start : ℕ) (behi
   pub is_at : (site : Statement) → begins_in (site ∷ []) ≡ [] → IsAt rows (site ∷ [])
       → IsAt behind (site ∷ map inverter_statement units ++ Begin start ∷ [])
 
--- so many inverters and the begin stand behind the site line
-pub record UnitsCounted (rows : Rows) (inverters start : ℕ) (behind : Rows) : Type 0 where
-  pub units : List unit.Unit
-  pub inverters_are : inverters ≡ length units
-  pub taken : UnitsTaken rows units start behind
-
+-- why there are no inverters and begin behind the site line: a bad line
 abbrev pub UnitsFault : Rows → ScriptFault → Type 0
 UnitsFault rows fault =
+    (site : Statement) → begins_in (site ∷ []) ≡ [] → IsAt rows (site ∷ []) → IsBadLine fault rows.whole.now
+
+-- or want of memory for them
+abbrev pub UnitsRefused : Rows → ScriptFault → Type 0
+UnitsRefused rows fault =
     (site : Statement) → begins_in (site ∷ []) ≡ [] → IsAt rows (site ∷ []) → Explains fault rows.whole.now
 
 -- these statements are a head of so many inverters and lines behind it up to this last moment
@@ -137,7 +142,7 @@ pub record OneLineTaken (rows : Rows) (inverters latest : ℕ) (line : Line) (be
 
 abbrev pub LineFault : Rows → ℕ → ℕ → ScriptFault → Type 0
 LineFault rows inverters latest fault =
-    (before : List Statement) → IsAt rows before → IsBegun inverters latest before → Explains fault rows.whole.now
+    (before : List Statement) → IsAt rows before → IsBegun inverters latest before → IsBadLine fault rows.whole.now
 
 abbrev pub LineTaken : Rows → ℕ → ℕ → Result (Option (Line × Rows)) ScriptFault → Type 0
 LineTaken rows inverters latest (Ok None) =
@@ -153,4 +158,5 @@ LinesTaken rows inverters start taken =
 
 -- the points of an inverter fit their 16 bits
 abbrev pub AreFactors : ℕ → ℤ → ℤ → Type 0
-AreFactors wmax wsf psf = (wmax ≤ 65535) × (negsuc 32767 ≤ℤ wsf) × (wsf ≤ℤ pos 32767) × (negsuc 32767 ≤ℤ psf) × (psf ≤ℤ pos 32767)
+AreFactors wmax wsf psf =
+    (wmax ≤ 65535) × (negsuc 32767 ≤ℤ wsf) × (wsf ≤ℤ pos 32767) × (negsuc 32767 ≤ℤ psf) × (psf ≤ℤ pos 32767)

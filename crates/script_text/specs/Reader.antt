@@ -5,7 +5,7 @@ use Rattle.script_text.specs.declared.lines.Lines.{Lines}
 use Rattle.script_text.specs.declared.lines.Begun.{Begun}
 use Rattle.script_text.specs.declared.fault.ScriptFault.{ScriptFault}
 use Rattle.script_text.specs.Script.{ScriptRecord, script_statements, IsScript}
-use Rattle.script_text.specs.Progress.{IsAt, IsBegun, Explains}
+use Rattle.script_text.specs.Progress.{IsAt, IsBegun, IsBadLine, Explains}
 
 -- the numbers of the rows ahead have 32 bits
 abbrev pub CanGoOn : Lines → Type 0
@@ -33,11 +33,18 @@ with_lines script more = record { site = script.site; start = script.start; line
 pub record LineRead (old : Lines) (line : Line) (new : Lines) : Type 0 where
   pub shorter : bytes_ahead new < bytes_ahead old
   pub can_go_on : CanGoOn new
-  pub goes_on : (bytes : List ℕ) (script : ScriptRecord) → HasRead bytes script old → HasRead bytes (with_lines script (line ∷ [])) new
+  pub goes_on : (bytes : List ℕ) (script : ScriptRecord) → HasRead bytes script old
+      → HasRead bytes (with_lines script (line ∷ [])) new
 
--- why there is no next line
+-- why there is no next line: the first bad line
+abbrev pub IsBadFrom : Lines → ScriptFault → Type 0
+IsBadFrom lines fault =
+    (bytes : List ℕ) (script : ScriptRecord) → HasRead bytes script lines → IsBadLine fault bytes
+
+-- why there is no script of these lines, which are taken
 abbrev pub FaultExplained : Lines → ScriptFault → Type 0
-FaultExplained lines fault = (bytes : List ℕ) (script : ScriptRecord) → HasRead bytes script lines → Explains fault bytes
+FaultExplained lines fault =
+    (bytes : List ℕ) (script : ScriptRecord) → HasRead bytes script lines → Explains fault bytes
 
 -- the lines that are left are those of a script
 abbrev pub AreLast : Lines → Type 0
@@ -48,4 +55,4 @@ AreLast lines = (bytes : List ℕ) (script : ScriptRecord) → HasRead bytes scr
 abbrev pub NextRead : Lines → Lines → Result (Option Line) ScriptFault → Type 0
 NextRead old new (Ok (Some line)) = LineRead old line new
 NextRead old new (Ok None) = (bytes : List ℕ) (script : ScriptRecord) → HasRead bytes script old → IsScript bytes script
-NextRead old new (Err fault) = FaultExplained old fault
+NextRead old new (Err fault) = IsBadFrom old fault

@@ -1,8 +1,8 @@
 -- How the row at the front of bytes is read: its numbers, and the bytes behind it. The reader computes this; that
 -- it is right by the grammar is proved beside it. Numbers above a greatest one are read as that, which is out of
 -- each range.
-use Rattle.std.specs.Prelude.{◌≡◌, ℕ, ◌+◌, ◌*◌, ◌-◌, ◌^◌, List, [], ◌∷◌, ◌++◌, length, take, drop, codes, min, suc}
-use Rattle.std.specs.Prelude.{Option, Some, None, nat_lt, Bool, true, false, ◌==◌, ◌||◌, ◌&&◌, if◌then◌else◌, ℤ, pos, negsuc}
+use Rattle.std.specs.Prelude.{◌≡◌, ℕ, ◌+◌, ◌*◌, ◌-◌, ◌^◌, List, [], ◌∷◌, length, take, drop, codes, min, suc}
+use Rattle.std.specs.Prelude.{Option, Some, None, nat_lt, Bool, false, ◌==◌, ◌||◌, ◌&&◌, if◌then◌else◌, ℤ, pos, negsuc}
 use Rattle.std.specs.Str.{bytes_eq}
 use denote.Ref.{Bor}
 use Rattle.share_policy.specs.declared.claim.Policy.{Policy}

@@ -1,13 +1,14 @@
 ghost use Rattle.std.specs.Prelude.{◌≤◌, length, MatchResult};
-ghost use Rattle.script_text.specs.Script.{HasNoBadLine};
-ghost use Rattle.script_text.specs.Progress.{Explains};
-ghost use Rattle.script_text.specs.Reader.{AreLast, CanGoOn, FaultExplained, HasRead, NextRead, script_begun};
+ghost use Rattle.script_text.specs.Progress.{Explains, IsBadLine};
+ghost use Rattle.script_text.specs.Reader.{AreLast, CanGoOn, HasRead, IsBadFrom, NextRead, script_begun};
+ghost use Rattle.script_text.specs.Size.{HasSize};
 
 use crate::fault::ScriptFault;
 use crate::judging::moment_after;
 use crate::line::Line;
 use crate::rows::Rows;
-use crate::script::{SCRIPT_BYTES_MAX, count_units, read_line, read_site, read_units};
+use crate::script::{SCRIPT_BYTES_MAX, read_line, read_site, read_units};
+use crate::size::{SiteSize, count_units};
 use plant_book::Site;
 use std::alloc::Global;
 
@@ -80,31 +81,31 @@ pub fn read_head(alloc: Global, bytes: &[u8]) -> Result<Begun<'_>, ScriptFault>
 /// Judges the lines that are left, and takes no memory for them.
 pub fn judge_rest(lines: &mut Lines<'_>) -> Result<(), ScriptFault>
     requires { CanGoOn lines.old }
-    ensures { MatchResult result (λ _. AreLast lines.old) (λ fault. FaultExplained lines.old fault) }
+    ensures { MatchResult result (λ _. AreLast lines.old) (λ fault. IsBadFrom lines.old fault) }
 {
     while lines.next_line()?.is_some() {}
     Ok(())
 }
 
-/// Judges a whole script, and takes no memory for it.
-fn judge(bytes: &[u8]) -> Result<(), ScriptFault>
+/// The size of the site of a script, or its first bad line. The whole script is judged, and no memory is taken.
+pub fn site_size(bytes: &[u8]) -> Result<SiteSize, ScriptFault>
     requires { length bytes.now ≤ SCRIPT_BYTES_MAX }
-    ensures { MatchResult result (λ _. HasNoBadLine bytes.now) (λ fault. Explains fault bytes.now) }
+    ensures { MatchResult result (λ size. HasSize bytes.now size) (λ fault. IsBadLine fault bytes.now) }
 {
     let rows = Rows {
         whole: bytes,
         rest: bytes,
         number: 1,
     };
-    let (_, rows) = read_site(rows)?;
-    let (inverters, latest, rows) = count_units(rows)?;
+    let (line, rows) = read_site(rows)?;
+    let (size, latest, rows) = count_units(line.cap, rows)?;
     let mut lines = Lines {
         rows,
-        inverters,
+        inverters: size.inverters,
         latest,
     };
     judge_rest(&mut lines)?;
-    Ok(())
+    Ok(size)
 }
 
 /// The fault of a script for which memory ran out: its first bad line, if it has one.
@@ -112,8 +113,8 @@ pub fn out_of_memory(bytes: &[u8]) -> ScriptFault
     requires { length bytes.now ≤ SCRIPT_BYTES_MAX }
     ensures { Explains result bytes.now }
 {
-    match judge(bytes) {
-        Ok(()) => ScriptFault::NoMemory,
+    match site_size(bytes) {
+        Ok(_) => ScriptFault::NoMemory,
         Err(fault) => fault,
     }
 }

@@ -139,7 +139,8 @@ impl Pen {
     pub fn three(&mut self, word: &[u8], a: u64, b: u64, c: u64)
         requires room { length word.now + 63 ≤ self.old.at }
         requires within { self.old.at ≤ 160 }
-        ensures line { tail_of self.new ≡ spaced (word.now ∷ decimal a ∷ decimal b ∷ decimal c ∷ []) ++ tail_of self.old }
+        ensures line { tail_of self.new
+            ≡ spaced (word.now ∷ decimal a ∷ decimal b ∷ decimal c ∷ []) ++ tail_of self.old }
         ensures room { self.old.at ≤ self.new.at + (length word.now + 63) }
         ensures within { self.new.at ≤ 160 }
     {
@@ -154,7 +155,8 @@ impl Pen {
     pub fn four(&mut self, word: &[u8], a: u64, b: u64, c: u64, d: u64)
         requires room { length word.now + 84 ≤ self.old.at }
         requires within { self.old.at ≤ 160 }
-        ensures line { tail_of self.new ≡ spaced (word.now ∷ decimal a ∷ decimal b ∷ decimal c ∷ decimal d ∷ []) ++ tail_of self.old }
+        ensures line { tail_of self.new
+            ≡ spaced (word.now ∷ decimal a ∷ decimal b ∷ decimal c ∷ decimal d ∷ []) ++ tail_of self.old }
         ensures room { self.old.at ≤ self.new.at + (length word.now + 84) }
         ensures within { self.new.at ≤ 160 }
     {

@@ -3,8 +3,9 @@ ghost use Rattle.script_text.specs.Grammar.{Statement, IsComment};
 ghost use Rattle.script_text.specs.Reading.{row_at};
 ghost use Rattle.script_text.specs.Progress.{IsAt, IsNextRow, IsFew};
 
-use crate::fields::{Fields, read_fields};
+use crate::fields::Fields;
 use crate::number::behind_row;
+use crate::reading::read_fields;
 
 /// The rows of a script that are still to be read.
 #[derive(Clone, Copy)]

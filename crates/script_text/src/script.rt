@@ -1,14 +1,15 @@
 ghost use Rattle.std.specs.Prelude.{◌≡◌, ℕ, ◌+◌, ◌-◌, ◌^◌, ◌<◌, ◌≤◌, List, [], length, IfOk, IfErr, MatchResult};
 ghost use Rattle.script_text.specs.Grammar.{Statement, Begin, Says};
 ghost use Rattle.script_text.specs.Script.{ScriptRecord, IsScript};
-ghost use Rattle.script_text.specs.Progress.{IsAt, Said, Explains, HeadFault, SiteTaken, HeadLineTaken, HeadLineFault, UnitsTaken, UnitsCounted, UnitsFault};
-ghost use Rattle.script_text.specs.Progress.{LineTaken};
+ghost use Rattle.script_text.specs.Progress.{IsAt, Said, Explains, IsBadLine, HeadFault, SiteTaken};
+ghost use Rattle.script_text.specs.Progress.{HeadLineTaken, HeadLineFault, UnitsTaken, UnitsRefused, LineTaken};
 ghost use Rattle.script_text.specs.Reader.{CanGoOn, HasRead, FaultExplained, with_lines};
 
 use crate::fault::ScriptFault;
 use crate::fields::Fields;
 use crate::head::{HeadLine, SiteLine};
-use crate::judging::{judge_head, judge_line, judge_site, moment_after};
+use crate::head_judging::{judge_head, judge_site};
+use crate::judging::judge_line;
 use crate::line::{Line, LineKind};
 use crate::lines::{Begun, Lines, judge_rest, out_of_memory, read_head};
 use crate::rows::{Row, Rows, next_row};
@@ -83,7 +84,7 @@ pub fn read_site(rows: Rows<'_>) -> Result<(SiteLine, Rows<'_>), ScriptFault>
     requires { rows.number + length rows.rest.now < 2 ^ 32 }
     ensures { MatchResult result
         (λ found. SiteTaken rows.entry found.0 found.1)
-        (λ fault. IsAt rows.entry [] → Explains fault rows.entry.whole.now) }
+        (λ fault. IsAt rows.entry [] → IsBadLine fault rows.entry.whole.now) }
 {
     let (numbers, behind) = next_of_head(rows)?;
     match judge_site(numbers) {
@@ -93,7 +94,7 @@ pub fn read_site(rows: Rows<'_>) -> Result<(SiteLine, Rows<'_>), ScriptFault>
 }
 
 /// The next line of a head behind its site line, and the rows behind it.
-fn read_head_line(rows: Rows<'_>) -> Result<(HeadLine, Rows<'_>), ScriptFault>
+pub fn read_head_line(rows: Rows<'_>) -> Result<(HeadLine, Rows<'_>), ScriptFault>
     requires { rows.number + length rows.rest.now < 2 ^ 32 }
     ensures { MatchResult result
         (λ found. HeadLineTaken rows.entry found.0 found.1)
@@ -115,7 +116,7 @@ pub fn read_units(
     requires short { length rows.whole.now ≤ SCRIPT_BYTES_MAX }
     ensures { MatchResult result
         (λ found. UnitsTaken rows.entry found.0.items found.1 found.2)
-        (λ fault. UnitsFault rows.entry fault) }
+        (λ fault. UnitsRefused rows.entry fault) }
 {
     let mut units = Vec::new(alloc);
     loop {
@@ -127,24 +128,6 @@ pub fn read_units(
                 }
             }
             HeadLine::Begin(start) => return Ok((units, start, behind)),
-        }
-        rows = behind;
-    }
-}
-
-/// How many inverters stand behind the site line, the begin, and the rows behind it. It takes no memory.
-pub fn count_units(mut rows: Rows<'_>) -> Result<(usize, u64, Rows<'_>), ScriptFault>
-    requires { rows.number + length rows.rest.now < 2 ^ 32 }
-    ensures { MatchResult result
-        (λ found. UnitsCounted rows.entry found.0 found.1 found.2)
-        (λ fault. UnitsFault rows.entry fault) }
-{
-    let mut inverters = 0;
-    loop {
-        let (line, behind) = read_head_line(rows)?;
-        match line {
-            HeadLine::Inverter(_) => inverters += 1,
-            HeadLine::Begin(start) => return Ok((inverters, start, behind)),
         }
         rows = behind;
     }

@@ -4,7 +4,8 @@ pub mod ReadInverters
 pub mod ReadUnits
 pub mod WholeTable
 pub mod MadeFile
-pub mod Causes
+pub mod Floors
+pub mod Judged
 pub mod Weights
 pub mod Consumption
 pub mod InverterLines

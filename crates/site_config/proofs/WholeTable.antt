@@ -36,7 +36,7 @@ table_fault-parts table =
     ∙ option_or-assoc (first_fault (site_checks table)) (of_inverters table) (of_units table)
 
 -- behind a site whose keys have no fault
-behind_site : (table : Members) → first_fault (site_checks table) ≡ None → table_fault table ≡ option_or (of_inverters table) (of_units table)
+pub behind_site : (table : Members) → first_fault (site_checks table) ≡ None → table_fault table ≡ option_or (of_inverters table) (of_units table)
 behind_site table none = table_fault-parts table ∙ ap (λ o. option_or o (option_or (of_inverters table) (of_units table))) none
 
 behind_inverters : (table : Members) → first_fault (site_checks table) ≡ None → of_inverters table ≡ None → table_fault table ≡ of_units table
@@ -62,11 +62,11 @@ pub record AreMade (table : Members) (inverters : List Inverter) (units : List u
   pub rated : map points_of units ≡ map (λ inverter. inverter.points) inverters
   pub reached : ports ≡ map (λ inverter. inverter.port) inverters
 
-map-points : (tables : List Members) → map (λ inverter. inverter.points) (map inverter_at tables) ≡ map points_at tables
+pub map-points : (tables : List Members) → map (λ inverter. inverter.points) (map inverter_at tables) ≡ map points_at tables
 map-points [] = refl
 map-points (table ∷ more) = ap (λ (rest : List Points). points_at table ∷ rest) (map-points more)
 
-map-port : (tables : List Members) → map (λ inverter. inverter.port) (map inverter_at tables) ≡ map port_at tables
+pub map-port : (tables : List Members) → map (λ inverter. inverter.port) (map inverter_at tables) ≡ map port_at tables
 map-port [] = refl
 map-port (table ∷ more) = ap (λ (rest : List PortRecord). port_at table ∷ rest) (map-port more)
 

@@ -15,7 +15,8 @@ use Rattle.site_config.specs.Keys.{base_max, renew_max, pause_max, wait_max, val
 
 -- A check of a key answers its fault, if it has one: that the table lacks it, that it holds another kind of value,
 -- or what the last test says of a value of the right kind.
-abbrev pub key_fault : {X : Type 0} → Key → Option ℕ → (Data → Option X) → (X → Option SiteFault) → Option Data → Option SiteFault
+abbrev pub key_fault :
+    {X : Type 0} → Key → Option ℕ → (Data → Option X) → (X → Option SiteFault) → Option Data → Option SiteFault
 key_fault key inverter kind test None = Some (Missing key inverter)
 key_fault key inverter kind test (Some value) = option_map_or test (kind value) (Some (WrongKind key inverter))
 
@@ -33,7 +34,9 @@ number_fault key inverter low high table = integer_fault key inverter (pos low) 
 -- a string that passes a test
 unfoldable pub text_fault : Key → Option ℕ → (List ℕ → Bool) → Members → Option SiteFault
 text_fault key inverter passes table =
-    key_fault key inverter as_str (λ text. if passes text then None else Some (BadText key inverter)) (value_at key table)
+    key_fault key inverter as_str
+    (λ text. if passes text then None else Some (BadText key inverter))
+    (value_at key table)
 
 -- a policy is `open` or `fair`, a host has 1 to 64 bytes
 abbrev pub is_policy : List ℕ → Bool

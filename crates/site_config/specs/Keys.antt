@@ -65,7 +65,8 @@ text_at key table = unwrap_or (option_and_then as_str (value_at key table)) []
 -- the tables that an array holds, where it holds nothing else
 abbrev pub tables_of : Items → Option (List Members)
 tables_of no_items = Some []
-tables_of (item first more) = option_and_then (λ table. option_map (λ tables. table ∷ tables) (tables_of more)) (as_table first)
+tables_of (item first more) =
+    option_and_then (λ table. option_map (λ tables. table ∷ tables) (tables_of more)) (as_table first)
 
 -- a value as an array of tables
 abbrev pub as_tables : Data → Option (List Members)

@@ -1,9 +1,11 @@
 -- What the parts of a site file hold as they are read, and what stops the reading.
-use Rattle.std.specs.Prelude.{◌≡◌, ◌^◌, ◌≤◌, List, map, length, Option, Some, None, Result, Ok, Err, Vec}
+use Rattle.std.specs.Prelude.{◌≡◌, ℕ, ◌+◌, ◌*◌, ◌^◌, ◌≤◌, List, map, length, sum_by, Option, Some, None, Result, Ok, Err, Vec}
+use Rattle.std.specs.Option.{option_or}
 use Rattle.std.specs.List.{All}
 use Rattle.std.specs.declared.alloc.Global.{Global}
 use Rattle.toml.specs.Data.{Members}
 use Rattle.toml.specs.View.{items_view}
+use Rattle.limiter_num.specs.Rating.{mw}
 use Rattle.limiter_num.specs.declared.rules.Rules.{Rules}
 use Rattle.plant_book.specs.Site.{IsSite, inverters}
 use Rattle.plant_book.specs.declared.site.Unit as unit
@@ -61,9 +63,32 @@ Tells found (Bad fault) = found ≡ Some fault
 abbrev pub inverter_at : Members → inverter.Inverter
 inverter_at table = record { port = port_at table; points = points_at table }
 
+-- the sum of the floors in milliwatts, up to one more inverter; the first fault stays
+abbrev pub AddsFloor : Result ℕ SiteFault → Result unit.Unit SiteFault → Result ℕ SiteFault → Type 0
+AddsFloor (Ok sum) (Ok unit) result =
+    (result ≡ Ok (sum + mw unit.rating unit.floor)) × (mw unit.rating unit.floor ≤ 65535 * 10 ^ 12)
+AddsFloor (Ok sum) (Err fault) result = result ≡ Err fault
+AddsFloor (Err fault) unit result = result ≡ Err fault
+
+-- these are inverters without a fault that the tables say
+pub record AreFloored (tables : List Members) (sum : ℕ) : Type 0 where
+  pub units : List unit.Unit
+  pub points_are : map points_of units ≡ map points_at tables
+  pub sum_is : sum ≡ sum_by (λ unit. mw unit.rating unit.floor) units
+
+-- the milliwatts of the floors of these tables' inverters, or the first fault of their keys, or else of their ratings
+abbrev pub JudgesInverters : List Members → Result ℕ SiteFault → Type 0
+JudgesInverters tables (Ok sum) =
+    (first_fault (each inverter_checks tables) ≡ None) × (first_fault (each unit_checks (map points_at tables)) ≡ None)
+    × AreFloored tables sum
+JudgesInverters tables (Err fault) =
+    option_or (first_fault (each inverter_checks tables)) (first_fault (each unit_checks (map points_at tables)))
+    ≡ Some fault
+
 -- the inverters of these tables, or their first fault
 abbrev pub ReadsInverters : List Members → Result (Vec inverter.Inverter Global) SiteError → Type 0
-ReadsInverters tables (Ok inverters) = (first_fault (each inverter_checks tables) ≡ None) × (inverters.items ≡ map inverter_at tables)
+ReadsInverters tables (Ok inverters) =
+    (first_fault (each inverter_checks tables) ≡ None) × (inverters.items ≡ map inverter_at tables)
     × All (λ inverter. inverter.port.base ≤ base_max) inverters.items
 ReadsInverters tables (Err error) = Tells (first_fault (each inverter_checks tables)) error
 

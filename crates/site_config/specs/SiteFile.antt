@@ -3,6 +3,7 @@ use Rattle.std.specs.Prelude.{◌≡◌, ℕ, ◌≤◌, nat_lt, if◌then◌els
 use Rattle.std.specs.Int.{div_ceil}
 use Rattle.std.specs.List.{All}
 use Rattle.toml.specs.Data.{Members}
+use Rattle.toml.specs.Errors.{IsBlank}
 use Rattle.toml.specs.Parse.{parse_document}
 use Rattle.limiter_num.specs.Timers.{reach}
 use Rattle.limiter_num.specs.declared.rules.Rules.{Rules}
@@ -82,12 +83,35 @@ pub record IsSiteFile (bytes : List ℕ) (file : SiteFileRecord) : Type 0 where
 -- their table, or of the file that the table says where it has none.
 pub data IsRefused (bytes : List ℕ) : SiteFault → Type 0 where
   no_text : (IsUtf8 bytes → parse_document bytes ≡ None) → IsRefused bytes NotToml
-  bad_table : {fault : SiteFault} (table : Members) → IsText bytes table → table_fault table ≡ Some fault → IsRefused bytes fault
-  bad_file : {fault : SiteFault} (file : SiteFileRecord) → Says bytes file → first_fault (file_checks file) ≡ Some fault → IsRefused bytes fault
+  bad_table : {fault : SiteFault} (table : Members) → IsText bytes table → table_fault table ≡ Some fault
+      → IsRefused bytes fault
+  bad_file : {fault : SiteFault} (file : SiteFileRecord) → Says bytes file → first_fault (file_checks file) ≡ Some fault
+      → IsRefused bytes fault
 
--- why there is no site file: want of memory tells nothing of the bytes
+-- The first fault of a table, or of the file that it says where it has none.
+pub data IsFaultOf (table : Members) : SiteFault → Type 0 where
+  of_table : {fault : SiteFault} → table_fault table ≡ Some fault → IsFaultOf table fault
+  of_file : {fault : SiteFault} (file : SiteFileRecord) → table_fault table ≡ None → IsFileOf table file
+      → first_fault (file_checks file) ≡ Some fault → IsFaultOf table fault
+
+-- the table has no fault, and neither has the file that it says
+pub record IsFaultless (table : Members) : Type 0 where
+  pub table_none : table_fault table ≡ None
+  pub file_none : (file : SiteFileRecord) → IsFileOf table file → first_fault (file_checks file) ≡ None
+
+-- why a table makes no site file: for want of memory only where nothing of it is at fault
+abbrev pub IsTableCause : Members → SiteError → Type 0
+IsTableCause table NoMemory = IsFaultless table
+IsTableCause table (Bad fault) = IsFaultOf table fault
+
+-- Where memory ran out: as a text that isn't blank was parsed, or for the file of a table of which nothing is at fault.
+pub data LacksMemory (bytes : List ℕ) : Type 0 where
+  for_parsing : IsUtf8 bytes → (IsBlank bytes → ⊥) → LacksMemory bytes
+  for_file : (table : Members) → IsText bytes table → IsFaultless table → LacksMemory bytes
+
+-- why there is no site file
 abbrev pub IsCause : List ℕ → SiteError → Type 0
-IsCause bytes NoMemory = Unit {0}
+IsCause bytes NoMemory = LacksMemory bytes
 IsCause bytes (Bad fault) = IsRefused bytes fault
 
 -- each inverter has its port, and the numbers of the file are in their ranges

@@ -1,9 +1,9 @@
-ghost use Rattle.std.specs.Prelude.{◌≡◌, ◌≤◌, List, length, map, None, Some, IsSome, IfOk, MatchResult};
+ghost use Rattle.std.specs.Prelude.{◌≡◌, ◌*◌, ◌^◌, ◌≤◌, List, length, map, None, Some, IsSome, IfOk, MatchResult};
 ghost use Rattle.toml.specs.Data.{Members};
 ghost use Rattle.toml.specs.View.{table_view, items_view};
 ghost use Rattle.site_config.specs.Keys.{tables_of, text_at, port_at, points_at, base_max};
 ghost use Rattle.site_config.specs.Checks.{first_fault, text_fault, is_host, port_checks, points_checks, inverter_checks};
-ghost use Rattle.site_config.specs.Reading.{inverter_at, ReadsInverters, Rates};
+ghost use Rattle.site_config.specs.Reading.{inverter_at, AddsFloor, JudgesInverters, ReadsInverters, Rates};
 
 use crate::fault::{SiteError, SiteFault};
 use crate::fields::Fields;
@@ -103,6 +103,33 @@ pub fn read_inverter(table: &Table, number: u32) -> Result<Inverter, SiteFault>
     let port = read_port(table, number)?;
     let points = read_points(table, number)?;
     Ok(Inverter { port, points })
+}
+
+/// The milliwatts of the floors so far with those of one more inverter, or the first fault of a rating or floor.
+fn with_floor(
+    floors: Result<u64, SiteFault>,
+    unit: Result<Unit, SiteFault>,
+) -> Result<u64, SiteFault>
+    requires { IfOk floors (λ sum. sum ≤ 63 * (65535 * 10 ^ 12)) }
+    ensures { AddsFloor floors unit result }
+{
+    let sum = floors?;
+    let unit = unit?;
+    Ok(sum + unit.rating.mw(unit.floor))
+}
+
+/// The milliwatts of the floors of the inverters of these tables, or the first fault of these. It takes no memory.
+pub fn judge_inverters(tables: &[Value]) -> Result<u64, SiteFault>
+    requires few { length tables.now ≤ 64 }
+    requires tables { IsSome (tables_of (items_view tables.now)) }
+    ensures { (known : List Members) → tables_of (items_view tables.now) ≡ Some known → JudgesInverters known result }
+{
+    let mut floors = Ok(0);
+    for (number, value) in tables.iter().enumerate() {
+        let inverter = read_inverter(table_of(value), number as u32)?;
+        floors = with_floor(floors, unit_of(inverter.points, number as u32));
+    }
+    floors
 }
 
 /// The inverters, by their tables.

@@ -6,5 +6,6 @@ ghost use Rattle.site_config.specs.SiteFile.{SiteFileRecord, IsSiteFile, IsRefus
 pub fn one_meaning()
     ensures file { (bytes : List ℕ) (a b : SiteFileRecord) → IsSiteFile bytes a → IsSiteFile bytes b → a ≡ b }
     ensures fault { (bytes : List ℕ) (f g : SiteFault) → IsRefused bytes f → IsRefused bytes g → f ≡ g }
-    ensures not_both { (bytes : List ℕ) (file : SiteFileRecord) (fault : SiteFault) → IsSiteFile bytes file → IsRefused bytes fault → ⊥ }
+    ensures not_both { (bytes : List ℕ) (file : SiteFileRecord) (fault : SiteFault) → IsSiteFile bytes file
+        → IsRefused bytes fault → ⊥ }
 {}

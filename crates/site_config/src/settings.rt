@@ -99,7 +99,8 @@ fn read_policy(fields: &Fields) -> Result<Policy, SiteFault>
     ensures fault { MatchResult result
         (λ _. text_fault Key.Policy None is_policy (table_view fields.now.table.now) ≡ None)
         (λ fault. text_fault Key.Policy None is_policy (table_view fields.now.table.now) ≡ Some fault) }
-    ensures policy { IfOk result (λ policy. Some policy ≡ policy_of (text_at Key.Policy (table_view fields.now.table.now))) }
+    ensures policy { IfOk result (λ policy.
+        Some policy ≡ policy_of (text_at Key.Policy (table_view fields.now.table.now))) }
 {
     let text = fields.text(Key::Policy)?;
     match policy_of(text) {

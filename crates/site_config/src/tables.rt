@@ -22,7 +22,8 @@ fn are_tables(values: &[Value]) -> bool
 fn tables(value: &Value) -> Option<&[Value]>
     ensures { MatchOption result
         (as_tables (view value.now) ≡ None)
-        (λ values. IsSome (tables_of (items_view values.now)) × (as_tables (view value.now) ≡ tables_of (items_view values.now))) }
+        (λ values. IsSome (tables_of (items_view values.now))
+        × (as_tables (view value.now) ≡ tables_of (items_view values.now))) }
 {
     let values = value.as_array()?.as_slice();
     if are_tables(values) {
@@ -39,7 +40,8 @@ pub fn read_tables<'a>(fields: &Fields<'a>) -> Result<&'a [Value], SiteFault>
     ensures fault { MatchResult result
         (λ _. inverters_fault (table_view fields.now.table.now) ≡ None)
         (λ fault. inverters_fault (table_view fields.now.table.now) ≡ Some fault) }
-    ensures tables { IfOk result (λ tables. tables_of (items_view tables.now) ≡ Some (inverters_at (table_view fields.now.table.now))) }
+    ensures tables { IfOk result (λ tables.
+        tables_of (items_view tables.now) ≡ Some (inverters_at (table_view fields.now.table.now))) }
     ensures some { IfOk result (λ tables. 1 ≤ length tables.now) }
     ensures few { IfOk result (λ tables. length tables.now ≤ 64) }
 {

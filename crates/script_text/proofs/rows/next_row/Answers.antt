@@ -1,4 +1,4 @@
-use Rattle.std.proofs.Common.{length, ◌≤◌, arith, sym, refl}
+use Rattle.std.proofs.Common.{refl}
 use Rattle.script_text.proofs.Taken.{none_next, said_next, fewer, some_bytes}
 use Rattle.script_text.proofs.rows.next_row.Goals as goal
 

@@ -1,4 +1,4 @@
-use Rattle.std.proofs.Common.{◌≤◌, length, arith, ap}
+use Rattle.std.proofs.Common.{length, arith, ap}
 use Rattle.script_text.proofs.Steps.{comment_on}
 use Rattle.script_text.proofs.Taken.{behind_short, comment_some}
 use Rattle.script_text.proofs.rows.past_comments.Goals as goal

@@ -1,4 +1,4 @@
-use Rattle.std.proofs.Common.{ℕ, ◌+◌, ◌^◌, ◌<◌, ◌≤◌, List, length}
+use Rattle.std.proofs.Common.{◌+◌, ◌^◌, ◌<◌, ◌≤◌, List, length}
 use Rattle.script_text.specs.Grammar.{Statement}
 use Rattle.script_text.specs.Progress.{Progress, IsAt}
 use Rattle.script_text.proofs.rows.past_comments.Given as goal

@@ -1,12 +1,12 @@
-use Rattle.std.proofs.Common.{◌≡◌, ◌<◌, ◌^◌, length, ◌∷◌, [], ◌++◌, ◌∙◌, rules, arith}
+use Rattle.std.proofs.Common.{◌≡◌, ◌<◌, ◌^◌, length, ◌∷◌, [], ◌++◌, ◌∙◌, rules}
 use Rattle.std.proofs.lemmas.Result.{err_from_is_err_and}
-use Rattle.script_text.proofs.Taken.{units_on, units_begun, units_fault}
+use Rattle.script_text.proofs.Taken.{units_on, units_begun, units_fault, bad_explains}
 use Rattle.script_text.proofs.script.read_units.Goals as goal
 
 pub returns-in_err-line : goal.returns-in_err-line
 returns-in_err-line c =
     let p = err_from_is_err_and c.from_residual.result c.from_residual.ensures.1 in
-    rw (p.1, p.2) (units_fault c.args.rows c.loop-units.rows c.loop-units.units.items _ c.in_err-line.ensures c.loop-units.invariant.whole c.loop-units.invariant.is_at)
+    rw (p.1, p.2) (λ site none at. bad_explains _ _ (units_fault c.args.rows c.loop-units.rows c.loop-units.units.items _ c.in_err-line.ensures c.loop-units.invariant.whole c.loop-units.invariant.is_at site none at))
 
 pub returns-in-Begin : goal.returns-in-Begin
 returns-in-Begin c =

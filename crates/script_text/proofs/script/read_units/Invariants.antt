@@ -1,4 +1,4 @@
-use Rattle.std.proofs.Common.{◌≡◌, ℕ, ◌+◌, ◌^◌, ◌<◌, ◌≤◌, List, [], ◌∷◌, length, map, vec_len}
+use Rattle.std.proofs.Common.{◌≡◌, ◌+◌, ◌^◌, ◌<◌, ◌≤◌, [], ◌∷◌, length, map, vec_len}
 use Rattle.script_text.specs.Grammar.{Statement}
 use Rattle.script_text.specs.Script.{begins_in, inverter_statement}
 use Rattle.script_text.specs.Progress.{IsAt}

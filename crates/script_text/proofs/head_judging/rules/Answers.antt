@@ -5,7 +5,7 @@ use Rattle.std.specs.Result.{result_ok}
 use Rattle.limiter_num.specs.Timers.{rules_out}
 use Rattle.limiter_num.specs.declared.rules.Rules.{Rules}
 use Rattle.limiter_num.specs.declared.rules.RulesOut.{RulesOut}
-use Rattle.script_text.proofs.judging.rules.Goals as goal
+use Rattle.script_text.proofs.head_judging.rules.Goals as goal
 
 no_fault : (fault : RulesOut) (found : Option RulesOut) → found ≡ Some fault → found ≡ None → ⊥
 no_fault fault found some none = cc
