@@ -227,14 +227,15 @@ all_of book passes deeds Fact each (pass ∷ all) are =
     All-cons Fact pass all (each pass (All-head (IsHand book passes deeds) (as_hand pass) (map as_hand all) are)) (all_of book passes deeds Fact each all (All-tail (IsHand book passes deeds) (as_hand pass) (map as_hand all) are))
 
 -- so the life comes from the passes
-pub is_closed : (desk : DeskRecord) (all : List PassRecord) (hands : List Hand) (slot : Slot) → hands ≡ map as_hand all → IsOver desk.book desk.passes hands slot
-    → (plant : PartRecord) → slot ≡ Some plant → IsClosed desk all plant
-is_closed desk all hands slot are over plant is = record {
+pub is_closed : (desk : DeskRecord) (all : List PassRecord) (hands : List Hand) (slot : Slot) → All (λ pass. pass.desk ≡ desk) all → hands ≡ map as_hand all
+    → IsOver desk.book desk.passes hands slot → (plant : PartRecord) → slot ≡ Some plant → IsClosed desk all plant
+is_closed desk all hands slot of_desk are over plant is = record {
   life = life_of desk.book over.deeds;
   comes = record {
     deeds = over.deeds;
     made = refl;
     answered = over.answered;
+    of_desk = of_desk;
     numbers = λ number low high.
         sym (sum_by-map_of (λ (h : Hand). is_one number h.number) as_hand all) ∙ ap (λ (hs : List Hand). sum_by (λ (h : Hand). is_one number h.number) hs) (sym are)
         ∙ over.numbers (is_one number) ∙ sum_by-there number 1 desk.passes low (omega arith);

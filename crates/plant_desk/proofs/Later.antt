@@ -22,13 +22,13 @@ use Rattle.plant_desk.proofs.Lives.{life_after-append, entries_of-push, front-le
 use Rattle.plant_desk.proofs.Passes.{calls_in, front-calls_in, entries_by-append}
 
 -- the entries among deeds
-abbrev entries_in : List Deed → List Entry
+abbrev pub entries_in : List Deed → List Entry
 entries_in [] = []
 entries_in (Entered by entry ∷ deeds) = entry ∷ entries_in deeds
 entries_in (Rolled by ∷ deeds) = entries_in deeds
 
 -- the joined book goes on with them
-joined-after : (life : Life) (deeds : List Deed) → joined_book (life_after life deeds) ≡ with_entries (joined_book life) ((joined_book life).entries ++ entries_in deeds)
+pub joined-after : (life : Life) (deeds : List Deed) → joined_book (life_after life deeds) ≡ with_entries (joined_book life) ((joined_book life).entries ++ entries_in deeds)
 joined-after life [] = ap (with_entries (joined_book life)) (sym (append-nil (joined_book life).entries))
 joined-after life (Entered by entry ∷ deeds) =
     let book = joined_book life in
@@ -40,11 +40,11 @@ joined-after life (Rolled by ∷ deeds) =
     ∙ ap (λ (es : List Entry). with_entries (joined_book life) (es ++ entries_in deeds)) (append-nil (entries_of (life.ended ++ life.last ∷ [])) ∙ entries_of-push life.ended life.last)
 
 -- the places of a pass's entries are those from the first on, below the front
-one_more : {A : Type 0} (P : A → Type 0) (b : Bool) (x : A) (xs : List A) → P x → All P xs → All P (cond b (x ∷ xs) xs)
+pub one_more : {A : Type 0} (P : A → Type 0) (b : Bool) (x : A) (xs : List A) → P x → All P xs → All P (cond b (x ∷ xs) xs)
 one_more P true x xs here rest = All-cons P x xs here rest
 one_more P false x xs here rest = rest
 
-places-from : (number place : ℕ) (deeds : List Deed) → All (λ (p : Placed). place ≤ p.place) (entries_by number place deeds)
+pub places-from : (number place : ℕ) (deeds : List Deed) → All (λ (p : Placed). place ≤ p.place) (entries_by number place deeds)
 places-from number place [] = All-nil (λ (p : Placed). place ≤ p.place)
 places-from number place (Entered by entry ∷ deeds) =
     let P : Placed → Type 0 = λ p. place ≤ p.place in
@@ -60,28 +60,36 @@ places-below number place (Entered by entry ∷ deeds) =
     (All-weaker (λ (p : Placed). p.place < place + 1 + calls_in deeds) P (λ p lt. omega arith) (entries_by number (place + 1) deeds) (places-below number (place + 1) deeds))
 places-below number place (Rolled by ∷ deeds) = places-below number place deeds
 
--- a book that has its room has it in what the life goes on to
-abbrev HasFull : ℕ → Life → Type 0
-HasFull room life = (book : PartRecord) × Contains (books_of life) book × (room ≤ length book.entries)
+-- a book of a life with more entries at its end is one of what the life goes on to
+abbrev pub with_more : PartRecord → List Entry → PartRecord
+with_more book more = record { site = book.site; start = book.start; carry = book.carry; entries = book.entries ++ more }
 
-full-entered : (room by : ℕ) (entry : Entry) (life : Life) → HasFull room life → HasFull room (lives.after life (Entered by entry))
-full-entered room by entry life (book, there, full) =
+abbrev pub Grown : PartRecord → Life → Type 0
+Grown book life = (more : List Entry) × Contains (books_of life) (with_more book more)
+
+grown-entered : (book : PartRecord) (by : ℕ) (entry : Entry) (life : Life) → Grown book life → Grown book (lives.after life (Entered by entry))
+grown-entered book by entry life (more, there) =
     let grown = with_one life.last entry in
     ⊎_elim
-    (λ (one : Contains life.ended book). (book, Contains-append_left life.ended (grown ∷ []) book one, full))
-    (λ (last : life.last ≡ book). (
-      grown,
-      Contains-push life.ended grown,
-      omega (arith, full, ap (λ (p : PartRecord). length p.entries) last, length-append life.last.entries (entry ∷ [])),
-    ))
-    (Contains-push_cases life.ended life.last book there)
+    (λ (one : Contains life.ended (with_more book more)). (more, Contains-append_left life.ended (grown ∷ []) (with_more book more) one))
+    (λ (last : life.last ≡ with_more book more).
+    let is : grown ≡ with_more book (more ++ entry ∷ []) =
+    ap (λ (part : PartRecord). with_one part entry) last ∙ ap (λ (es : List Entry). record { site = book.site; start = book.start; carry = book.carry; entries = es }) (append_assoc book.entries more (entry ∷ [])) in
+    (more ++ entry ∷ [], subst (Contains (books_of (lives.after life (Entered by entry)))) is (Contains-push life.ended grown)))
+    (Contains-push_cases life.ended life.last (with_more book more) there)
 
-full-after : (room : ℕ) (life : Life) (deeds : List Deed) → HasFull room life → HasFull room (life_after life deeds)
-full-after room life [] full = full
-full-after room life (Entered by entry ∷ deeds) full = full-after room (lives.after life (Entered by entry)) deeds (full-entered room by entry life full)
-full-after room life (Rolled by ∷ deeds) full =
+grown-after : (book : PartRecord) (life : Life) (deeds : List Deed) → Grown book life → Grown book (life_after life deeds)
+grown-after book life [] grown = grown
+grown-after book life (Entered by entry ∷ deeds) grown = grown-after book (lives.after life (Entered by entry)) deeds (grown-entered book by entry life grown)
+grown-after book life (Rolled by ∷ deeds) grown =
     let rolled = lives.after life (Rolled by) in
-    full-after room rolled deeds (full.0, Contains-append_left rolled.ended (rolled.last ∷ []) full.0 full.1, full.2)
+    grown-after book rolled deeds (grown.0, Contains-append_left rolled.ended (rolled.last ∷ []) (with_more book grown.0) grown.1)
+
+pub book-grows : (book plant : PartRecord) (deeds later : List Deed) → Contains (books_of (life_of plant deeds)) book → Grown book (life_of plant (deeds ++ later))
+book-grows book plant deeds later there =
+    let same : book ≡ with_more book [] = ap (λ (es : List Entry). record { site = book.site; start = book.start; carry = book.carry; entries = es }) (sym (append-nil book.entries)) in
+    let first : Grown book (life_of plant deeds) = ([], subst (Contains (books_of (life_of plant deeds))) same there) in
+    subst (Grown book) (sym (life_after-append (first_life plant) deeds later)) (grown-after book (life_of plant deeds) later first)
 
 module _ (old : PassRecord) (more : List Deed) where
   abbrev new : PassRecord
@@ -105,7 +113,7 @@ module _ (old : PassRecord) (more : List Deed) where
   entries_later : entries new ≡ entries old ++ fresh
   entries_later = entries_by-append old.number (first_place old.desk) old.seen more
 
-  goals_after : (made place inverter : ℕ) (goal : Goal) → MayTell old made place inverter goal → MayTell new made place inverter goal
+  pub goals_after : (made place inverter : ℕ) (goal : Goal) → MayTell old made place inverter goal → MayTell new made place inverter goal
   goals_after made place inverter goal was =
       let Held : Placed → Type 0 = λ p. p.place < place in
       let Later : Placed → Type 0 = λ p. place ≤ p.place in
@@ -124,12 +132,10 @@ module _ (old : PassRecord) (more : List Deed) where
 
   full_after : WasFull old → WasFull new
   full_after was =
-      let room = old.desk.book.site.room in
-      let found = subst (HasFull room) (sym (life_after-append (first_life old.desk.book) old.seen more))
-      (full-after room (life_of old.desk.book old.seen) more (was.book, was.there, was.full)) in
-      record { book = found.0; there = found.1; full = found.2 }
+      let found = book-grows was.book old.desk.book old.seen more was.there in
+      record { book = with_more was.book found.0; there = found.1; full = omega (arith, was.full, length-append was.book.entries found.0) }
 
-  rolls_after : (number : ℕ) (book : PartRecord) → Ended old number book → Ended new number book
+  pub rolls_after : (number : ℕ) (book : PartRecord) → Ended old number book → Ended new number book
   rolls_after number book was = record {
     before = was.before;
     behind = was.behind ++ more;
@@ -138,7 +144,7 @@ module _ (old : PassRecord) (more : List Deed) where
     it = was.it;
   }
 
-  lives_after : (calls : ℕ) → WasFullLife old calls → WasFullLife new calls
+  pub lives_after : (calls : ℕ) → WasFullLife old calls → WasFullLife new calls
   lives_after calls was = (omega (arith, was.0, front_later), was.1)
 
   tests_after : TestsLast (tests_of old) (tests_of new)

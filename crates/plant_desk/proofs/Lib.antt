@@ -5,4 +5,7 @@ pub mod Passes
 pub mod Fields
 pub mod Ends
 pub mod Later
+pub mod Placing
+pub mod Standing
+pub mod Telling
 pub mod Meant

@@ -102,7 +102,7 @@ ended-after life (Rolled by ∷ deeds) =
     let rest = ended-after (lives.after life (Rolled by)) deeds in
     (life.last ∷ rest.0, rest.1 ∙ append_assoc life.ended (life.last ∷ []) rest.0)
 
-stands_in : (book : PartRecord) (deeds later : List Deed) (by : ℕ) → StandsIn (life_of book ((deeds ++ Rolled by ∷ []) ++ later)) (life_of book deeds).last
+pub stands_in : (book : PartRecord) (deeds later : List Deed) (by : ℕ) → StandsIn (life_of book ((deeds ++ Rolled by ∷ []) ++ later)) (life_of book deeds).last
 stands_in book deeds later by =
     let first = lives.first_life book in
     let life = life_of book deeds in

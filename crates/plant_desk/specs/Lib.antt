@@ -4,3 +4,4 @@ pub mod Rule
 pub mod Passes
 pub mod Kept
 pub mod DeskOf
+pub mod Standing

@@ -120,11 +120,12 @@ pub record RefusesRoll (old : PassRecord) (fault : RollFault) (new : PassRecord)
 
 -- A life comes from these passes of a desk: it is the answered life that some deeds make of the book that
 -- came to the desk. Each deed is of just one of the passes, and of each pass the deeds have just its own
--- entries and rolls.
+-- entries and rolls, and begin with all that it has seen.
 pub record ComesFrom (desk : DeskRecord) (passes : List PassRecord) (life : Life) : Type 0 where
   pub deeds : List Deed
   pub made : life ≡ life_of desk.book deeds
   pub answered : IsLife life
+  pub of_desk : All (λ pass. pass.desk ≡ desk) passes
   pub numbers : (number : ℕ) → 1 ≤ number → number ≤ desk.passes
       → count_by (λ pass. pass.number == number) passes ≡ 1
   pub signed : All (λ deed. (1 ≤ author deed) × (author deed ≤ desk.passes)) deeds

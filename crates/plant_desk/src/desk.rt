@@ -10,7 +10,7 @@ ghost use Rattle.plant_desk.specs.Passes.{Looks, FindsFull, Enters, RollsOver, R
 
 use crate::board::Boards;
 use crate::pass::Pass;
-use crate::turn::{calls_now, give_back, give_entered, give_rolled, take_turn};
+use crate::turn::{give_back, give_entered, give_rolled, refuse_full, take_turn};
 use plant_book::{Book, Call, MOMENT_MAX, Reply};
 use plant_ledger::{BookFull, Goal, Outcome, Plant, RollFault, Ticket};
 use std::alloc::Global;
@@ -75,13 +75,7 @@ impl PlantDesk {
                 give_entered(board, &mut pass.place, plant);
                 Ok(outcome)
             }
-            Err(_) => {
-                let calls = calls_now(board, &mut pass.place);
-                give_back(board, &mut pass.place, plant);
-                Err(BookFull {
-                    calls: calls as u32,
-                })
-            }
+            Err(_) => Err(refuse_full(board, &mut pass.place, plant)),
         }
     }
 
@@ -108,13 +102,7 @@ impl PlantDesk {
                 give_entered(board, &mut pass.place, plant);
                 Ok(reply)
             }
-            Err(_) => {
-                let calls = calls_now(board, &mut pass.place);
-                give_back(board, &mut pass.place, plant);
-                Err(BookFull {
-                    calls: calls as u32,
-                })
-            }
+            Err(_) => Err(refuse_full(board, &mut pass.place, plant)),
         }
     }
 

@@ -10,6 +10,7 @@ mod closing;
 mod deed;
 mod desk;
 mod desk_of;
+mod laws;
 mod opening;
 mod pass;
 mod plays;
@@ -18,6 +19,7 @@ mod turn;
 pub use closing::CloseRefused;
 pub use desk::PlantDesk;
 pub use desk_of::DeskOf;
+pub use laws::{entries_are_told_apart, what_passes_made_stands};
 pub use pass::Pass;
 
 #[cfg(test)]

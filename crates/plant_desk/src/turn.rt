@@ -1,6 +1,6 @@
 //! The steps of one call on the table of a desk: take the turn with the plant, enter or roll, and give both
 //! back.
-ghost use Rattle.std.specs.Prelude.{◌≡◌, [], ◌∷◌, length, Option, Some, None, MatchBool};
+ghost use Rattle.std.specs.Prelude.{◌≡◌, ◌<◌, ◌^◌, [], ◌∷◌, length, Option, Some, None, MatchBool};
 ghost use Rattle.plant_book.specs.declared.book.Entry.{Entry};
 ghost use Rattle.plant_book.specs.Part.{PartRecord};
 ghost use Rattle.plant_desk.specs.declared.deed.Deed.TheVariants as deeds;
@@ -10,7 +10,7 @@ ghost use Rattle.plant_desk.specs.Rule.{IsBoard, Takes, TakesOut, HasOneMore, Ha
 
 use crate::board::{BASE, Board, FRONT, PLANT, Place, TURN};
 use crate::plays::{Cut, Give, Raise, SeeBase, SeeFront, Try};
-use plant_ledger::Plant;
+use plant_ledger::{BookFull, Plant};
 use std::sync::Wait;
 use std::thread;
 
@@ -181,4 +181,21 @@ pub fn calls_now(board: &Board, place: &mut Place) -> u64
     let front = front_now(board, place);
     let base = base_now(board, place);
     front - base
+}
+
+/// Gives the turn back with the plant as it was taken, and tells how many calls its full book has.
+pub fn refuse_full(board: &Board, place: &mut Place, plant: Plant) -> BookFull
+    requires board { IsBoard board.now.table_id }
+    requires place { place.old.table_id ≡ board.now.table_id }
+    requires holds { (one : Hand) × (place.old.me ≡ holding one None) × (plant ≡ plant_of one) }
+    requires few { length plant.entries < 2 ^ 32 }
+    ensures same { place.new.table_id ≡ place.old.table_id }
+    ensures given { (one : Hand) → place.old.me ≡ holding one None → place.new.me ≡ resting one }
+    ensures calls { result.calls ≡ length plant.entries }
+{
+    let calls = calls_now(board, place);
+    give_back(board, place, plant);
+    BookFull {
+        calls: calls as u32,
+    }
 }

@@ -5,4 +5,4 @@ use Rattle.plant_desk.proofs.desk.PlantDesk.close.Goals as goal
 
 pub returns-clause-closed : goal.returns-clause-closed
 returns-clause-closed c =
-    is_closed c.args.self c.args.passes.items c.merge-place.result.me.0.hands (Some c.take_out.result) (ap (λ (m : Sat). m.0.hands) c.merge-place.ensures.all) c.take_out.ensures c.take_out.result refl
+    is_closed c.args.self c.args.passes.items c.merge-place.result.me.0.hands (Some c.take_out.result) c.requires.of_desk (ap (λ (m : Sat). m.0.hands) c.merge-place.ensures.all) c.take_out.ensures c.take_out.result refl

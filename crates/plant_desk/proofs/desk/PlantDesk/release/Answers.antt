@@ -1,4 +1,4 @@
-use Rattle.std.proofs.Common.{◌<◌, [], ◌∷◌, ◌++◌, None, sym, ap, subst, ◌∙◌, arith, refl, length}
+use Rattle.std.proofs.Common.{◌<◌, [], ◌∷◌, ◌++◌, sym, ap, subst, ◌∙◌, refl, length}
 use Rattle.plant_book.specs.Site.{SiteRecord, inverters}
 use Rattle.plant_book.specs.Part.{PartRecord}
 use Rattle.plant_ledger.specs.Release.{back_of}
@@ -31,31 +31,15 @@ invariant_of-pass g c =
     let deed = Entered one.number is.more.entry in
     is_pass c.pass.inside c.give_entered.new.place (out.between ++ deed ∷ []) (twice (hand_of c.pass.inside) out.between (deed ∷ []) _ (c.give_entered.ensures.given one is.more out.holds))
 
-pub calls_now-calls-requires-clause-holds : goal.calls_now-calls-requires-clause-holds
-calls_now-calls-requires-clause-holds g c =
+pub refuse_full-requires-clause-holds : goal.refuse_full-requires-clause-holds
+refuse_full-requires-clause-holds g c =
     let out = c.take_turn-plant.ensures.taken (hand_of c.pass.inside) c.pass.invariant in
-    (told (hand_of c.pass.inside) out.between, None, out.holds)
-
-pub give_back-requires-clause-holds : goal.give_back-requires-clause-holds
-give_back-requires-clause-holds g c =
-    let out = c.take_turn-plant.ensures.taken (hand_of c.pass.inside) c.pass.invariant in
-    (told (hand_of c.pass.inside) out.between, c.calls_now-calls.ensures.same.1 ∙ out.holds, c.in-Err.ensures.full.3 ∙ out.on)
-
-pub overflow_cast-result : goal.overflow_cast-result
-overflow_cast-result g c =
-    let out = c.take_turn-plant.ensures.taken (hand_of c.pass.inside) c.pass.invariant in
-    let one = told (hand_of c.pass.inside) out.between in
-    let high = out.answered.book.openable.checked.room_high in
-    let calls = c.calls_now-calls.ensures.calls one None out.holds in
-    let many = ap (λ (b : PartRecord). length b.entries) out.on in
-    let room = ap (λ (b : PartRecord). b.site.room) out.on in
-    omega (arith, calls, many, room, high, c.in-Err.ensures.full.0, c.in-Err.ensures.full.1)
+    (told (hand_of c.pass.inside) out.between, out.holds, c.in-Err.ensures.full.3 ∙ out.on)
 
 pub invariant_of-pass-in-Err : goal.invariant_of-pass-in-Err
 invariant_of-pass-in-Err g c =
     let out = c.take_turn-plant.ensures.taken (hand_of c.pass.inside) c.pass.invariant in
-    let one = told (hand_of c.pass.inside) out.between in
-    is_pass c.pass.inside c.give_back.new.place out.between (c.give_back.ensures.given one (c.calls_now-calls.ensures.same.1 ∙ out.holds))
+    is_pass c.pass.inside c.refuse_full.new.place out.between (c.refuse_full.ensures.given (told (hand_of c.pass.inside) out.between) out.holds)
 
 pub returns-in-Ok-clause-entered : goal.returns-in-Ok-clause-entered
 returns-in-Ok-clause-entered g c =
@@ -68,10 +52,10 @@ returns-in-Ok-clause-entered g c =
 pub returns-in-Err-clause-full : goal.returns-in-Err-clause-full
 returns-in-Err-clause-full g c =
     let out = c.take_turn-plant.ensures.taken (hand_of c.pass.inside) c.pass.invariant in
-    let one = told (hand_of c.pass.inside) out.between in
-    let calls = c.calls_now-calls.ensures.calls one None out.holds ∙ ap (λ (b : PartRecord). length b.entries) (sym out.on) in
-    finds_full c.pass.inside _ _ _ c.give_back.new.place c.pass.view_is out (c.give_back.ensures.same ∙ c.calls_now-calls.ensures.same.0 ∙ c.take_turn-plant.ensures.same)
-    c.calls_now-calls.result calls (calls ∙ sym c.in-Err.ensures.full.0 ∙ c.in-Err.ensures.full.1) (c.give_back.ensures.given one (c.calls_now-calls.ensures.same.1 ∙ out.holds))
+    let same = ap (λ (b : PartRecord). length b.entries) c.in-Err.ensures.full.3 in
+    let calls = c.refuse_full.ensures.calls ∙ same in
+    finds_full c.pass.inside _ _ _ c.refuse_full.new.place c.pass.view_is out (c.refuse_full.ensures.same ∙ c.take_turn-plant.ensures.same) c.refuse_full.result.calls calls
+    (calls ∙ sym c.in-Err.ensures.full.0 ∙ c.in-Err.ensures.full.1) (c.refuse_full.ensures.given (told (hand_of c.pass.inside) out.between) out.holds)
 
 pub returns-in-Ok-clause-same : goal.returns-in-Ok-clause-same
 returns-in-Ok-clause-same g c = enters_same _ _ _ _ (returns-in-Ok-clause-entered g c)
