@@ -3,6 +3,7 @@ pub mod Seeing
 pub mod Walking
 pub mod Turning
 pub mod Joining
+pub mod LifeTurn
 pub mod Seats
 pub mod Rounds
 pub mod Whole

@@ -1,5 +1,5 @@
 -- What all workers did, one after another.
-use Rattle.std.proofs.Common.{◌≡◌, ◌≢◌, ℕ, zero, suc, ◌<◌, ◌≤◌, Bool, true, false, eqb, List, [], ◌∷◌, ◌++◌, length, ◌⊎◌, inl, inr, Option, Some, refl, sym, ap, subst, ◌∙◌, arith, append-nil, append_assoc}
+use Rattle.std.proofs.Common.{◌≡◌, ◌≢◌, ℕ, zero, suc, ◌<◌, ◌≤◌, Bool, true, false, eqb, List, [], ◌∷◌, ◌++◌, length, ◌⊎◌, inl, inr, Option, Some, refl, sym, ap, subst, ◌∙◌, arith, append-nil, append_assoc, length-append}
 use Rattle.std.specs.Prelude.{set, slice_get, ◌==◌}
 use Rattle.std.specs.List.{AllByRecursion}
 use Rattle.std.proofs.lemmas.Bool.{eqb-true, eqb-false, ne_eqb}
@@ -14,11 +14,12 @@ use Rattle.plant_book.specs.Book.{BookRecord}
 use Rattle.inverter_worker.specs.declared.job.Job.{Job}
 use Rattle.worker_turn.specs.Worker.{WorkerRecord}
 use Rattle.plant_run.specs.Own.{is_workers, entries_of}
-use Rattle.plant_run.specs.Works.{Works}
+use Rattle.plant_run.specs.Works.{IsGoalAfter, IsFull, Works}
 use Rattle.plant_run.specs.Running.{EachWorker, IsOfOne, Differ}
 use Rattle.plant_run.specs.Rounds.{IsSeat, Grows, WorkOn}
 use Rattle.plant_run.proofs.Steps.{idle}
-use Rattle.plant_run.proofs.Joining.{joined}
+use Rattle.plant_run.proofs.Seeing.{all_map, all_joined}
+use Rattle.plant_run.proofs.Joining.{Last, goal_still, joined}
 
 -- lists, place by place
 pub get_at : {X : Type 0} (xs : List X) (i : ℕ) → i < length xs → (x : X) × (slice_get xs i ≡ Some x)
@@ -77,13 +78,12 @@ others_stay inverter other not entries more own =
     filter-append (λ (e : Entry). is_workers other e.call) entries more
     ∙ ap (λ (es : List Entry). entries_of other entries ++ es) (none_of inverter other not more own) ∙ append-nil (entries_of other entries)
 
-all_map : (P Q : Entry → Type 0) → ((entry : Entry) → P entry → Q entry) → (entries : List Entry) → AllByRecursion P entries → AllByRecursion Q entries
-all_map P Q to [] all = tt
-all_map P Q to (entry ∷ entries) all = (to entry all.0, all_map P Q to entries all.1)
+goals_still : (b c : BookRecord) (more : List Entry) → c ≡ record b { entries = b.entries ++ more } → Last (IsGoalAfter b) (IsGoalAfter c)
+goals_still b c more is made place inverter goal told =
+    let P : BookRecord → Type 0 = λ book. IsGoalAfter book made place inverter goal in subst P (sym is) (goal_still b more made place inverter goal told)
 
-all_joined : (P : Entry → Type 0) (xs ys : List Entry) → AllByRecursion P xs → AllByRecursion P ys → AllByRecursion P (xs ++ ys)
-all_joined P [] ys first last = last
-all_joined P (x ∷ xs) ys first last = (first.0, all_joined P xs ys first.1 last)
+full_still : (b c : BookRecord) (more : List Entry) → c ≡ record b { entries = b.entries ++ more } → IsFull b → IsFull c
+full_still b c more is full = subst IsFull (sym is) (omega (arith, full, length-append b.entries more))
 
 grows_more : (P : Entry → Type 0) (a b c : BookRecord) → (x : Grows P a b) → (y : Grows P b c) → Grows P a c
 grows_more P a b c x y =
@@ -103,9 +103,10 @@ module _ {N : Type 0} (links : N → Option Links) (faults : N → ℕ) (may_giv
     each = λ place before after old new was now dialer dialer_now.
         let worker_same : before ≡ after = some_same before after (sym was ∙ now) in
         let dialer_same : old ≡ new = some_same old new (sym dialer ∙ dialer_now) in
-        let P : WorkerRecord → Type 0 = λ w. Works may_give before.job book book before w (links old) (links new) (faults old) (faults new) in
-        let Q : N → Type 0 = λ d. Works may_give before.job book book before before (links old) (links d) (faults old) (faults d) in
-        subst P worker_same (subst Q dialer_same (idle may_give before.job book book before (links old) (faults old) refl (seats place before was).rests refl refl));
+        let P : WorkerRecord → Type 0 = λ w. Works may_give before.job book book (IsFull book) before w (links old) (links new) (faults old) (faults new) in
+        let Q : N → Type 0 = λ d. Works may_give before.job book book (IsFull book) before before (links old) (links d) (faults old) (faults d) in
+        subst P worker_same (subst Q dialer_same (idle (IsGoalAfter book) (IsFull book) may_give before.job (entries_of before.job.inverter book.entries) (entries_of before.job.inverter book.entries) before
+        (links old) (faults old) refl (seats place before was).rests refl));
     workers_stay = refl;
     dialers_stay = refl;
     behind = λ place past. refl;
@@ -116,7 +117,7 @@ module _ {N : Type 0} (links : N → Option Links) (faults : N → ℕ) (may_giv
       → EachWorker (IsSeat count) workers → Differ workers → place < length workers → place < length dialers
       → slice_get workers place ≡ Some before → slice_get dialers place ≡ Some dialer
       → Grows (λ entry. is_workers before.job.inverter entry.call ≡ true) old new
-      → Works may_give before.job old new before after (links dialer) (links dialer_now) (faults dialer) (faults dialer_now)
+      → Works may_give before.job old new (IsFull new) before after (links dialer) (links dialer_now) (faults dialer) (faults dialer_now)
       → WorkOn links faults may_give old new workers (set workers place after) dialers (set dialers place dialer_now)
   one old new workers dialers count place before after dialer dialer_now seats differ within dialed was was_dialer grows works = record {
     grows = record {
@@ -133,21 +134,21 @@ module _ {N : Type 0} (links : N → Option Links) (faults : N → ℕ) (may_giv
     where
       here : (a b : WorkerRecord) (d e : N) → slice_get workers place ≡ Some a → slice_get (set workers place after) place ≡ Some b
           → slice_get dialers place ≡ Some d → slice_get (set dialers place dialer_now) place ≡ Some e
-          → Works may_give a.job old new a b (links d) (links e) (faults d) (faults e)
+          → Works may_give a.job old new (IsFull new) a b (links d) (links e) (faults d) (faults e)
       here a b d e is_a is_b is_d is_e =
           let same_a : before ≡ a = some_same before a (sym was ∙ is_a) in
           let same_b : after ≡ b = some_same after b (sym (get_same workers place after within) ∙ is_b) in
           let same_d : dialer ≡ d = some_same dialer d (sym was_dialer ∙ is_d) in
           let same_e : dialer_now ≡ e = some_same dialer_now e (sym (get_same dialers place dialer_now dialed) ∙ is_e) in
-          let P : WorkerRecord → Type 0 = λ a. Works may_give a.job old new a b (links d) (links e) (faults d) (faults e) in
-          let Q : WorkerRecord → Type 0 = λ b. Works may_give before.job old new before b (links d) (links e) (faults d) (faults e) in
-          let R : N → Type 0 = λ d. Works may_give before.job old new before after (links d) (links e) (faults d) (faults e) in
-          let S : N → Type 0 = λ e. Works may_give before.job old new before after (links dialer) (links e) (faults dialer) (faults e) in
+          let P : WorkerRecord → Type 0 = λ a. Works may_give a.job old new (IsFull new) a b (links d) (links e) (faults d) (faults e) in
+          let Q : WorkerRecord → Type 0 = λ b. Works may_give before.job old new (IsFull new) before b (links d) (links e) (faults d) (faults e) in
+          let R : N → Type 0 = λ d. Works may_give before.job old new (IsFull new) before after (links d) (links e) (faults d) (faults e) in
+          let S : N → Type 0 = λ e. Works may_give before.job old new (IsFull new) before after (links dialer) (links e) (faults dialer) (faults e) in
           subst P same_a (subst Q same_b (subst R same_d (subst S same_e works)))
 
       there : (other : ℕ) (a b : WorkerRecord) (d e : N) → place ≢ other → slice_get workers other ≡ Some a
           → slice_get (set workers place after) other ≡ Some b → slice_get dialers other ≡ Some d → slice_get (set dialers place dialer_now) other ≡ Some e
-          → Works may_give a.job old new a b (links d) (links e) (faults d) (faults e)
+          → Works may_give a.job old new (IsFull new) a b (links d) (links e) (faults d) (faults e)
       there other a b d e not is_a is_b is_d is_e =
           let same_b : a ≡ b = some_same a b (sym is_a ∙ sym (get_other workers place other after not) ∙ is_b) in
           let same_e : d ≡ e = some_same d e (sym is_d ∙ sym (get_other dialers place other dialer_now not) ∙ is_e) in
@@ -155,17 +156,17 @@ module _ {N : Type 0} (links : N → Option Links) (faults : N → ℕ) (may_giv
           let entries : entries_of a.job.inverter new.entries ≡ entries_of a.job.inverter old.entries =
           ap (λ (book : BookRecord). entries_of a.job.inverter book.entries) grows.is
           ∙ others_stay before.job.inverter a.job.inverter apart old.entries grows.more grows.each in
-          let site : new.site ≡ old.site = ap (λ (book : BookRecord). book.site) grows.is in
-          let P : WorkerRecord → Type 0 = λ b. Works may_give a.job old new a b (links d) (links e) (faults d) (faults e) in
-          let Q : N → Type 0 = λ e. Works may_give a.job old new a a (links d) (links e) (faults d) (faults e) in
-          subst P same_b (subst Q same_e (idle may_give a.job old new a (links d) (faults d) refl (seats other a is_a).rests entries site))
+          let P : WorkerRecord → Type 0 = λ b. Works may_give a.job old new (IsFull new) a b (links d) (links e) (faults d) (faults e) in
+          let Q : N → Type 0 = λ e. Works may_give a.job old new (IsFull new) a a (links d) (links e) (faults d) (faults e) in
+          subst P same_b (subst Q same_e (idle (IsGoalAfter new) (IsFull new) may_give a.job (entries_of a.job.inverter old.entries) (entries_of a.job.inverter new.entries) a
+          (links d) (faults d) refl (seats other a is_a).rests entries))
 
       at : (other : ℕ) (a b : WorkerRecord) (d e : N) → (place ≡ other) ⊎ (place ≢ other) → slice_get workers other ≡ Some a
           → slice_get (set workers place after) other ≡ Some b → slice_get dialers other ≡ Some d → slice_get (set dialers place dialer_now) other ≡ Some e
-          → Works may_give a.job old new a b (links d) (links e) (faults d) (faults e)
+          → Works may_give a.job old new (IsFull new) a b (links d) (links e) (faults d) (faults e)
       at other a b d e (inl same) is_a is_b is_d is_e =
           let P : ℕ → Type 0 = λ n. slice_get workers n ≡ Some a → slice_get (set workers place after) n ≡ Some b → slice_get dialers n ≡ Some d
-          → slice_get (set dialers place dialer_now) n ≡ Some e → Works may_give a.job old new a b (links d) (links e) (faults d) (faults e) in
+          → slice_get (set dialers place dialer_now) n ≡ Some e → Works may_give a.job old new (IsFull new) a b (links d) (links e) (faults d) (faults e) in
           subst P same (here a b d e) is_a is_b is_d is_e
       at other a b d e (inr not) is_a is_b is_d is_e = there other a b d e not is_a is_b is_d is_e
 
@@ -183,8 +184,9 @@ module _ {N : Type 0} (links : N → Option Links) (faults : N → ℕ) (may_giv
         let mid_dialer = get_at dialers_mid place (omega (arith, dialed, x.dialers_stay)) in
         let first = x.each place before mid.0 old mid_dialer.0 was mid.1 dialer mid_dialer.1 in
         let last = y.each place mid.0 after mid_dialer.0 new mid.1 now mid_dialer.1 dialer_now in
-        let P : Job → Type 0 = λ job. Works may_give job b c mid.0 after (links mid_dialer.0) (links new) (faults mid_dialer.0) (faults new) in
-        joined may_give before.job a b c before mid.0 after _ _ _ _ _ _ first (subst P first.job_same last) y.grows.more y.grows.is;
+        let P : Job → Type 0 = λ job. Works may_give job b c (IsFull c) mid.0 after (links mid_dialer.0) (links new) (faults mid_dialer.0) (faults new) in
+        joined (IsGoalAfter b) (IsGoalAfter c) (IsFull b) (IsFull c) (goals_still b c y.grows.more y.grows.is) (full_still b c y.grows.more y.grows.is) may_give before.job
+        _ _ _ before mid.0 after _ _ _ _ _ _ first (subst P first.job_same last);
     workers_stay = y.workers_stay ∙ x.workers_stay;
     dialers_stay = y.dialers_stay ∙ x.dialers_stay;
     behind = λ place past. y.behind place (omega (arith, past, x.workers_stay)) ∙ x.behind place past;

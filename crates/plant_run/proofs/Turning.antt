@@ -1,15 +1,10 @@
--- One turn of a worker on the desk of a whole life.
-use Rattle.std.proofs.Common.{◌≡◌, ℕ, zero, suc, ◌+◌, ◌≤◌, Bool, true, false, cond, eqb, List, [], ◌∷◌, ◌++◌, length, take, ◌⊎◌, inl, inr, Option, Some, None, refl, sym, ap, subst, ◌∙◌, arith, append-nil}
-use Rattle.std.specs.Prelude.{slice_get}
+-- One turn of a worker, through any desk.
+use Rattle.std.proofs.Common.{◌≡◌, ℕ, ◌+◌, ◌≤◌, Bool, true, false, cond, eqb, List, [], ◌∷◌, ◌++◌, length, ◌⊎◌, inl, inr, Option, Some, None, refl, sym, ap, subst, ◌∙◌, arith, append-nil}
 use Rattle.std.specs.List.{AllByRecursion}
-use Rattle.std.proofs.lemmas.List.{take-append-le, take_all}
-use Rattle.std.proofs.lemmas.Option.{none-some, get_or_from_slice_get}
 use Rattle.world_traits.specs.Clocks.{AreGiven}
 use Rattle.world_traits.specs.Links.{Links}
 use Rattle.plant_book.specs.declared.book.Entry.{Entry}
-use Rattle.plant_book.specs.Book.{BookRecord}
-use Rattle.plant_ledger.specs.declared.plant.Goal.{Goal}
-use Rattle.ledger_desk.specs.Plain.{PlainRecord, LifeRecord, joined, front, state_of, life_of, MayTell, WasFull}
+use Rattle.ledger_desk.specs.Desk.{GoalTest, DeskTests}
 use Rattle.inverter_worker.specs.declared.job.Job.{Job}
 use Rattle.inverter_worker.specs.declared.input.Input.{Input}
 use Rattle.inverter_worker.specs.declared.input.Input.TheVariants as input
@@ -22,42 +17,23 @@ use Rattle.inverter_worker.specs.declared.state.Step.TheVariants.{Ready, Over}
 use Rattle.inverter_worker.specs.Table.{row}
 use Rattle.inverter_worker.specs.Runs.{RunStep}
 use Rattle.inverter_worker.specs.Turns.{readings}
-use Rattle.worker_turn.specs.Doing.{World, IsDone, world_of}
+use Rattle.worker_turn.specs.Doing.{World, IsDone, AreDone, world_of}
 use Rattle.worker_turn.specs.Desks.{IsTold}
 use Rattle.worker_turn.specs.declared.worker.Turned.{Turned}
 use Rattle.worker_turn.specs.declared.worker.Turned.TheVariants as turned
 use Rattle.worker_turn.specs.Worker.{WorkerRecord, Answers, IsBegin, IsBetweenTurns, IsTurn}
 use Rattle.worker_turn.specs.Acts.{Stands}
 use Rattle.worker_turn.specs.Turning.{pending}
-use Rattle.worker_turn.specs.Agreeing.{AreEntriesOf, calls_made, made_by}
-use Rattle.worker_turn.proofs.Agreeing.{Gains, entered}
-use Rattle.plant_run.specs.Own.{is_workers, entries_of, own_world}
-use Rattle.plant_run.specs.Works.{IsGoalAfter, IsFull, IsToldAt, AreTold, IsAtRest, Works}
-use Rattle.plant_run.specs.Rounds.{IsWhole, Grows, book_of}
+use Rattle.worker_turn.specs.Agreeing.{calls_made, made_by}
+use Rattle.plant_run.specs.Works.{IsToldAt, AreTold, IsAtRest, WorksOn}
 use Rattle.plant_run.proofs.Steps.{done_between, idle}
-use Rattle.plant_run.proofs.Seeing.{IsOwn, seen}
+use Rattle.plant_run.proofs.Seeing.{viewed, shifted}
 use Rattle.plant_run.proofs.Walking.{Walk, walk, IsFullTold, NoGoalsBehind, told_rest}
 
 pub ready_or_over : (step : Step) → IsBetweenTurns step → (step ≡ Ready) ⊎ ((end : End) × (step ≡ Over end))
 ready_or_over Ready rests = inl refl
 ready_or_over (Over end) rests = inr (end, refl)
 ready_or_over step rests = absurd rests
-
--- of a life that was not rolled there is one book that may be full
-only_book : (number begin end whole room : ℕ) → slice_get (0 ∷ []) number ≡ Some begin → slice_get (whole ∷ []) number ≡ Some end
-    → begin + room ≤ end → room ≤ whole
-only_book zero begin end whole room begins ends full =
-    omega (arith, get_or_from_slice_get (0 ∷ []) zero begin 0 begins, get_or_from_slice_get (whole ∷ []) zero end 0 ends, full)
-only_book (suc number) begin end whole room begins ends full = absurd (none-some begin begins)
-
--- the desk of a whole life, as a worker sees it
-seen_whole : (inverter : ℕ) (before : List ℕ) (desk : PlainRecord) (links : Option Links) (faults : ℕ) (read unread : List ℕ) → IsWhole desk
-    → seen inverter before (world_of (state_of desk) links faults read unread) ≡ own_world inverter (book_of desk) links faults (before ++ read) unread
-seen_whole inverter before desk links faults read unread whole = rw (whole.begun, whole.rolls) refl
-
--- the entries that were made on it are those of the life
-made_whole : (desk : PlainRecord) → IsWhole desk → (state_of desk).made ≡ joined desk
-made_whole desk whole = rw whole.begun refl
 
 -- how a turn begins
 abbrev StandsRow : Job → Option (State × Output) → Type 0
@@ -82,9 +58,9 @@ begin_done : (job : Job) (came : Input) (world : World) → IsBegin came → IsD
 begin_done job came world (inl is) = let P : Input → Type 0 = λ came. IsDone job output.Nothing came world world in subst P (sym is) refl
 begin_done job came world (inr is) = let P : Input → Type 0 = λ came. IsDone job output.Nothing came world world in subst P (sym is) refl
 
-begin_told : (book : BookRecord) (inverter calls : ℕ) (came : Input) → IsBegin came → IsToldAt book inverter calls came
-begin_told book inverter calls came (inl is) = let P : Input → Type 0 = λ came. IsToldAt book inverter calls came in subst P (sym is) tt
-begin_told book inverter calls came (inr is) = let P : Input → Type 0 = λ came. IsToldAt book inverter calls came in subst P (sym is) tt
+begin_told : (may_tell : GoalTest) (was_full : Type 0) (inverter made : ℕ) (came : Input) → IsBegin came → IsToldAt may_tell was_full inverter made came
+begin_told may_tell was_full inverter made came (inl is) = let P : Input → Type 0 = λ came. IsToldAt may_tell was_full inverter made came in subst P (sym is) tt
+begin_told may_tell was_full inverter made came (inr is) = let P : Input → Type 0 = λ came. IsToldAt may_tell was_full inverter made came in subst P (sym is) tt
 
 -- between two turns nothing is left to be done
 pub at_rest : (job : Job) (step : Step) (put : Output) → IsBetweenTurns step → Stands job step put → IsAtRest step put
@@ -93,191 +69,113 @@ at_rest job Ready _ rests stands = absurd stands
 at_rest job (Over end) put rests stands = tt
 at_rest job step put rests stands = absurd rests
 
--- the entries that were made are the worker's own
-entries_own : (job : Job) (made gained : List Entry) → AllByRecursion (λ entry. IsOwn job entry.call) made → AreEntriesOf made gained
-    → AllByRecursion (λ entry. is_workers job.inverter entry.call ≡ true) gained
-entries_own job [] [] own are = tt
-entries_own job (one ∷ made) (entry ∷ gained) own are =
-    let P : Entry → Type 0 = λ e. is_workers job.inverter e.call ≡ true in
-    (subst P (sym are.0.is) (own.0 are.0.at), entries_own job made gained own.1 are.1)
-entries_own job [] (entry ∷ gained) own are = absurd are
-entries_own job (one ∷ made) [] own are = absurd are
+-- what a turn was told is told of its run
+module _ (tests : DeskTests) (inverter made begun now : ℕ) where
+  told_first : (came : Input) → IsTold tests inverter made begun now came → IsToldAt tests.may_tell tests.was_full inverter made came
+  told_first (input.Goal goal) told = (told.0, told.3)
+  told_first input.Full told = told
+  told_first _ told = tt
 
-module _ (old new : PlainRecord) (whole : IsWhole old) (whole_now : IsWhole new) (life : life_of new ≡ life_of old) where
-  -- the book goes on
-  pub goes_on : (Fact : Entry → Type 0) (gained : List Entry) → (state_of new).made ≡ (state_of old).made ++ gained → AllByRecursion Fact gained
-      → Grows Fact (book_of old) (book_of new)
-  goes_on Fact gained is each =
-      let site : new.book.site ≡ old.book.site = ap (λ (l : LifeRecord). l.site) life in
-      let start : new.book.start ≡ old.book.start = ap (λ (l : LifeRecord). l.start) life in
-      let entries : joined new ≡ joined old ++ gained =
-      sym (made_whole new whole_now) ∙ is ∙ ap (λ (es : List Entry). es ++ gained) (made_whole old whole) in
-      record { more = gained; is = rw (site, start, entries) refl; each = each }
+  full_one : (came : Input) → IsTold tests inverter made begun now came → IsFullTold tests.was_full came
+  full_one input.Full told = told
+  full_one _ told = tt
 
-  -- a goal that was told in a turn is that of the book as the turn began
-  goal_after : (inverter place : ℕ) (goal : Goal) (gained : List Entry) → joined new ≡ joined old ++ gained
-      → MayTell new (length (state_of old).made) place inverter goal → IsGoalAfter (book_of new) inverter (length (entries_of inverter (joined old))) goal
-  goal_after inverter place goal gained is told =
-      let at : place ≡ length (joined old) = omega (arith, told.counted, whole_now.begun, ap length (made_whole old whole)) in
-      let first : take place (joined new) ≡ joined old =
-      ap (λ n. take n (joined new)) at ∙ ap (take (length (joined old))) is ∙ take-append-le (length (joined old)) (joined old) gained (omega arith)
-      ∙ take_all (length (joined old)) (joined old) (omega arith) in
-      record {
-        place = place;
-        within = told.within;
-        own = ap (λ (es : List Entry). length (entries_of inverter es)) first;
-        told = told.told;
-      }
+  full_all : (later : List RunStep) → AllByRecursion (λ one. IsTold tests inverter made begun now one.input) later
+      → AllByRecursion (λ one. IsFullTold tests.was_full one.input) later
+  full_all [] told = tt
+  full_all (one ∷ later) told = (full_one one.input told.0, full_all later told.1)
 
-  -- and a full book is full
-  full_now : WasFull new → IsFull (book_of new)
-  full_now full =
-      let P : List ℕ → Type 0 = λ rolls. slice_get (0 ∷ rolls) full.number ≡ Some full.begin in
-      let Q : List ℕ → Type 0 = λ rolls. slice_get (rolls ++ front new ∷ []) full.number ≡ Some full.end in
-      only_book full.number full.begin full.end (front new) new.book.site.room (subst P whole_now.rolls full.begins) (subst Q whole_now.rolls full.ends) full.full
-
-  told_first : (inverter : ℕ) (gained : List Entry) (came : Input) → joined new ≡ joined old ++ gained
-      → IsTold (MayTell new) (WasFull new) inverter (state_of old) (state_of new) came
-      → IsToldAt (book_of new) inverter (length (entries_of inverter (joined old))) came
-  told_first inverter gained (input.Goal goal) is told = goal_after inverter told.0 goal gained is told.3
-  told_first inverter gained input.Full is told = full_now told
-  told_first inverter gained _ is told = tt
-
-  full_one : (inverter : ℕ) (came : Input) → IsTold (MayTell new) (WasFull new) inverter (state_of old) (state_of new) came → IsFullTold (book_of new) came
-  full_one inverter input.Full told = full_now told
-  full_one inverter _ told = tt
-
-  full_all : (inverter : ℕ) (later : List RunStep)
-      → AllByRecursion (λ one. IsTold (MayTell new) (WasFull new) inverter (state_of old) (state_of new) one.input) later
-      → AllByRecursion (λ one. IsFullTold (book_of new) one.input) later
-  full_all inverter [] told = tt
-  full_all inverter (one ∷ later) told = (full_one inverter one.input told.0, full_all inverter later told.1)
-
-  told_later : (inverter : ℕ) (gained : List Entry) (put : Output) (later : List RunStep) → joined new ≡ joined old ++ gained
-      → AllByRecursion (λ one. IsTold (MayTell new) (WasFull new) inverter (state_of old) (state_of new) one.input) later → NoGoalsBehind later
-      → AreTold (book_of new) inverter put later (length (entries_of inverter (joined old)))
-  told_later inverter gained put [] is told none = tt
-  told_later inverter gained put (one ∷ later) is told none = (
-    told_first inverter gained one.input is told.0,
-    told_rest (book_of new) inverter one.output later (length (entries_of inverter (joined old)) + length (made_by put one.input)) none
-        (full_all inverter later told.1),
+  told_later : (put : Output) (later : List RunStep) → AllByRecursion (λ one. IsTold tests inverter made begun now one.input) later → NoGoalsBehind later
+      → AreTold tests.may_tell tests.was_full inverter put later made
+  told_later put [] told none = tt
+  told_later put (one ∷ later) told none = (
+    told_first one.input told.0,
+    told_rest tests.may_tell tests.was_full inverter one.output later (made + length (made_by put one.input)) none (full_all later told.1),
   )
 
-  module _ (before after : WorkerRecord) (links links_now : Option Links) (faults faults_now : ℕ) (read : List ℕ) (may_give : ℕ → Bool)
-      (given : AreGiven may_give read) (ready : before.state.step ≡ Ready)
-      (rests : IsBetweenTurns after.state.step) (same : after.job ≡ before.job)
-      (turn : IsTurn (MayTell new) (WasFull new) before after (world_of (state_of old) links faults [] before.unread)
-      (world_of (state_of new) links_now faults_now read after.unread)) where
+module _ (tests : DeskTests) (front front_now : ℕ) (before after : WorkerRecord) (made made_now : List Entry) (links links_now : Option Links)
+    (faults faults_now : ℕ) (may_give : ℕ → Bool) (rests_now : IsBetweenTurns after.state.step) (same : after.job ≡ before.job) where
+  module _ (read : List ℕ) (given : AreGiven may_give read) (ready : before.state.step ≡ Ready)
+      (turn : IsTurn tests front front_now before after (world_of made links faults [] before.unread) (world_of made_now links_now faults_now read after.unread)) where
     abbrev job : Job
     job = before.job
 
     abbrev was : World
-    was = world_of (state_of old) links faults [] before.unread
+    was = world_of made links faults [] before.unread
 
     abbrev is_now : World
-    is_now = world_of (state_of new) links_now faults_now read after.unread
+    is_now = world_of made_now links_now faults_now read after.unread
 
     stands : Stands job turn.leads.1.0.step turn.first.output
     stands =
         let P : Step → Type 0 = λ step. row job before.state step turn.first.input ≡ Some (turn.leads.1.0, turn.first.output) in
         begun_stands job before.state turn.leads.1.0 turn.first.input turn.first.output turn.begins (subst P ready turn.leads.1.1.0)
 
-    walked : Walk job turn.first.output turn.later after.state was is_now
+    walked : Walk job turn.first.output turn.later after.state
     walked = walk job turn.first.output turn.leads.1.0 turn.later after.state was is_now stands turn.within turn.leads.1.1.1 turn.done
 
-    gains : Gains (calls_made turn.first.output turn.later) was is_now
-    gains = entered job turn.first.output turn.later was is_now turn.done
-
-    pub turn_grows : Grows (λ entry. is_workers job.inverter entry.call ≡ true) (book_of old) (book_of new)
-    turn_grows = goes_on (λ entry. is_workers job.inverter entry.call ≡ true) gains.0 gains.1
-        (entries_own job (calls_made turn.first.output turn.later) gains.0 walked.own gains.2)
-
-    begun_as : (earlier : List ℕ) → seen job.inverter earlier was ≡ own_world job.inverter (book_of old) links faults earlier before.unread
-    begun_as earlier =
-        let world : List ℕ → World = λ r. own_world job.inverter (book_of old) links faults r before.unread in
-        seen_whole job.inverter earlier old links faults [] before.unread whole ∙ ap world (append-nil earlier)
+    begun_as : (earlier : List ℕ) → viewed (λ es. es) earlier was ≡ world_of made links faults earlier before.unread
+    begun_as earlier = ap (λ (r : List ℕ). world_of made links faults r before.unread) (append-nil earlier)
 
     now_as : (earlier : List ℕ)
-        → seen job.inverter earlier is_now ≡ own_world job.inverter (book_of new) links_now faults_now (earlier ++ readings (turn.first ∷ turn.later)) after.unread
-    now_as earlier =
-        let world : List ℕ → World = λ r. own_world job.inverter (book_of new) links_now faults_now (earlier ++ r) after.unread in
-        seen_whole job.inverter earlier new links_now faults_now read after.unread whole_now ∙ ap world turn.readings
+        → viewed (λ es. es) earlier is_now ≡ world_of made_now links_now faults_now (earlier ++ readings (turn.first ∷ turn.later)) after.unread
+    now_as earlier = ap (λ (r : List ℕ). world_of made_now links_now faults_now (earlier ++ r) after.unread) turn.readings
 
-    told : AreTold (book_of new) job.inverter output.Nothing (turn.first ∷ turn.later) (length (entries_of job.inverter (joined old)))
+    told : AreTold tests.may_tell tests.was_full job.inverter output.Nothing (turn.first ∷ turn.later) (length made)
     told =
-        let calls = length (entries_of job.inverter (joined old)) in
-        let entries : joined new ≡ joined old ++ gains.0 =
-        sym (made_whole new whole_now) ∙ gains.1 ∙ ap (λ (es : List Entry). es ++ gains.0) (made_whole old whole) in
-        let P : ℕ → Type 0 = λ n. AreTold (book_of new) job.inverter turn.first.output turn.later n in
-        let none : calls ≡ calls + 0 = omega arith in (
-          begin_told (book_of new) job.inverter calls turn.first.input turn.begins,
-          subst P none (told_later job.inverter gains.0 turn.first.output turn.later entries turn.told walked.behind),
+        let P : ℕ → Type 0 = λ n. AreTold tests.may_tell tests.was_full job.inverter turn.first.output turn.later n in
+        let none : length made ≡ length made + 0 = omega arith in (
+          begin_told tests.may_tell tests.was_full job.inverter (length made) turn.first.input turn.begins,
+          subst P none (told_later tests job.inverter (length made) front front_now turn.first.output turn.later turn.told walked.behind),
         )
 
-    pub turn_works : Works may_give job (book_of old) (book_of new) before after links links_now faults faults_now
+    -- the whole turn, from nothing to be done on
+    done : (earlier : List ℕ)
+        → AreDone job output.Nothing (turn.first ∷ turn.later) (world_of made links faults earlier before.unread)
+        (world_of made_now links_now faults_now (earlier ++ readings (turn.first ∷ turn.later)) after.unread)
+    done earlier =
+        let first : World = viewed (λ es. es) earlier was in
+        done_between job output.Nothing (turn.first ∷ turn.later) _ _ _ _ (begun_as earlier) (now_as earlier)
+        (first, begin_done job turn.first.input first turn.begins, shifted earlier job turn.first.output turn.later was is_now turn.done)
+
+    turn_works : WorksOn tests.may_tell tests.was_full may_give job made made_now before after links links_now faults faults_now
     turn_works = record {
       run = turn.first ∷ turn.later;
       job_same = same;
       leads = turn.leads;
       log = turn.log;
-      done = λ earlier. done_between job output.Nothing (turn.first ∷ turn.later) _ _ _ _ (begun_as earlier) (now_as earlier)
-          (seen job.inverter earlier was, begin_done job turn.first.input (seen job.inverter earlier was) turn.begins, walked.seen earlier);
+      done = done;
+      own = walked.own;
       clock = let P : List ℕ → Type 0 = λ r. AreGiven may_give r in subst P turn.readings given;
       told = told;
-      rests = at_rest job after.state.step (pending turn.first.output turn.later) rests walked.stands;
+      rests = at_rest job after.state.step (pending turn.first.output turn.later) rests_now walked.stands;
     }
 
-  -- a worker that is over did nothing
-  module _ (before after : WorkerRecord) (links links_now : Option Links) (faults faults_now : ℕ) (read read_now : List ℕ) (may_give : ℕ → Bool)
-      (rests : IsBetweenTurns before.state.step) (same : after ≡ before)
-      (world : world_of (state_of new) links_now faults_now read_now after.unread ≡ world_of (state_of old) links faults read before.unread) where
-    made_same : (state_of new).made ≡ (state_of old).made
-    made_same = ap (λ (w : World). w.desk.made) world
-
-    pub still_grows : (Fact : Entry → Type 0) → Grows Fact (book_of old) (book_of new)
-    still_grows Fact = goes_on Fact [] (made_same ∙ sym (append-nil (state_of old).made)) tt
-
-    pub still_works : Works may_give before.job (book_of old) (book_of new) before after links links_now faults faults_now
-    still_works =
-        let entries : joined new ≡ joined old = sym (made_whole new whole_now) ∙ made_same ∙ made_whole old whole in
-        let site : new.book.site ≡ old.book.site = ap (λ (l : LifeRecord). l.site) life in
-        let P : WorkerRecord → Type 0 = λ w. Works may_give before.job (book_of old) (book_of new) before w links links_now faults faults_now in
-        let Q : Option Links → Type 0 = λ l. Works may_give before.job (book_of old) (book_of new) before before links l faults faults_now in
-        let R : ℕ → Type 0 = λ f. Works may_give before.job (book_of old) (book_of new) before before links links faults f in
-        subst P (sym same) (subst Q (sym (ap (λ (w : World). w.links) world)) (subst R (sym (ap (λ (w : World). w.faults) world))
-        (idle may_give before.job (book_of old) (book_of new) before links faults refl rests (ap (entries_of before.job.inverter) entries) site)))
-
   -- what came of a turn, or of none
-  module _ (before after : WorkerRecord) (links links_now : Option Links) (faults faults_now : ℕ) (read read_now : List ℕ) (may_give : ℕ → Bool)
-      (given : AreGiven may_give read_now) (rests : IsBetweenTurns before.state.step) (rests_now : IsBetweenTurns after.state.step) (same : after.job ≡ before.job) (none : read ≡ [])
-      (turn : before.state.step ≡ Ready → IsTurn (MayTell new) (WasFull new) before after (world_of (state_of old) links faults read before.unread)
-      (world_of (state_of new) links_now faults_now read_now after.unread))
+  module _ (read read_now : List ℕ) (given : AreGiven may_give read_now) (rests : IsBetweenTurns before.state.step) (none : read ≡ [])
+      (turn : before.state.step ≡ Ready → IsTurn tests front front_now before after (world_of made links faults read before.unread)
+      (world_of made_now links_now faults_now read_now after.unread))
       (over : (end : End) → before.state.step ≡ Over end → (after ≡ before)
-      × (world_of (state_of new) links_now faults_now read_now after.unread ≡ world_of (state_of old) links faults read before.unread)) where
-    made : before.state.step ≡ Ready → IsTurn (MayTell new) (WasFull new) before after (world_of (state_of old) links faults [] before.unread)
-        (world_of (state_of new) links_now faults_now read_now after.unread)
-    made ready =
-        let P : List ℕ → Type 0 = λ r. IsTurn (MayTell new) (WasFull new) before after (world_of (state_of old) links faults r before.unread)
-        (world_of (state_of new) links_now faults_now read_now after.unread) in
-        subst P none (turn ready)
+      × (world_of made_now links_now faults_now read_now after.unread ≡ world_of made links faults read before.unread)) where
+    still_works : (after ≡ before) → (world_of made_now links_now faults_now read_now after.unread ≡ world_of made links faults read before.unread)
+        → WorksOn tests.may_tell tests.was_full may_give before.job made made_now before after links links_now faults faults_now
+    still_works is world =
+        let P : WorkerRecord → Type 0 = λ w. WorksOn tests.may_tell tests.was_full may_give before.job made made_now before w links links_now faults faults_now in
+        let Q : Option Links → Type 0 = λ l. WorksOn tests.may_tell tests.was_full may_give before.job made made_now before before links l faults faults_now in
+        let R : ℕ → Type 0 = λ f. WorksOn tests.may_tell tests.was_full may_give before.job made made_now before before links links faults f in
+        subst P (sym is) (subst Q (sym (ap (λ (w : World). w.links) world)) (subst R (sym (ap (λ (w : World). w.faults) world))
+        (idle tests.may_tell tests.was_full may_give before.job made made_now before links faults refl rests (ap (λ (w : World). w.made) world))))
 
-    pub did_grow : Grows (λ entry. is_workers before.job.inverter entry.call ≡ true) (book_of old) (book_of new)
-    did_grow = by (ready_or_over before.state.step rests)
-      where
-        by : (before.state.step ≡ Ready) ⊎ ((end : End) × (before.state.step ≡ Over end))
-            → Grows (λ entry. is_workers before.job.inverter entry.call ≡ true) (book_of old) (book_of new)
-        by (inl ready) = turn_grows before after links links_now faults faults_now read_now may_give given ready rests_now same (made ready)
-        by (inr ended) =
-            still_grows before after links links_now faults faults_now read read_now may_give rests (over ended.0 ended.1).0 (over ended.0 ended.1).1
-            (λ entry. is_workers before.job.inverter entry.call ≡ true)
-
-    pub did : Works may_give before.job (book_of old) (book_of new) before after links links_now faults faults_now
+    pub did : WorksOn tests.may_tell tests.was_full may_give before.job made made_now before after links links_now faults faults_now
     did = by (ready_or_over before.state.step rests)
       where
         by : (before.state.step ≡ Ready) ⊎ ((end : End) × (before.state.step ≡ Over end))
-            → Works may_give before.job (book_of old) (book_of new) before after links links_now faults faults_now
-        by (inl ready) = turn_works before after links links_now faults faults_now read_now may_give given ready rests_now same (made ready)
-        by (inr ended) = still_works before after links links_now faults faults_now read read_now may_give rests (over ended.0 ended.1).0 (over ended.0 ended.1).1
+            → WorksOn tests.may_tell tests.was_full may_give before.job made made_now before after links links_now faults faults_now
+        by (inl ready) =
+            let P : List ℕ → Type 0 = λ r. IsTurn tests front front_now before after (world_of made links faults r before.unread)
+            (world_of made_now links_now faults_now read_now after.unread) in
+            turn_works read_now given ready (subst P none (turn ready))
+        by (inr ended) = let still = over ended.0 ended.1 in still_works still.0 still.1
 
 -- how a turn leaves a worker
 pub answers_rest : (answer : Turned) (step : Step) → Answers answer step → IsBetweenTurns step

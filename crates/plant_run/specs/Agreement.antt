@@ -20,7 +20,7 @@ use Rattle.worker_turn.specs.Requests.{IsRequested}
 use Rattle.worker_turn.specs.Sights.{IsSeen}
 use Rattle.worker_turn.specs.Turning.{pending}
 use Rattle.plant_run.specs.Own.{entries_of}
-use Rattle.plant_run.specs.Works.{AreTold}
+use Rattle.plant_run.specs.Works.{IsGoalAfter, AreTold}
 
 -- an output that was done, with the input that came of it
 pub record Act : Type 0 where
@@ -168,12 +168,12 @@ SeesWhatCame job run = (sofar later : List RunStep) (at inverter number raw : â„
 -- What a worker's run, from its first turn on, has to do with the book and with its dialer. Its calls with their replies
 -- are the book's entries of its inverter. Its dialer's new links agree with it, one by one. Its writes were sent in their
 -- windows, and each request was whole before its reply was waited for. What failed was counted. Each goal is that of the
--- book after some of its first entries, and each Saw has its frame.
-pub record Agrees (job : Job) (book : BookRecord) (run : List RunStep) (old new : World) : Type 0 where
+-- book after some of its first entries, and where one came to a full book one was full. Each Saw has its frame.
+pub record Agrees (job : Job) (book : BookRecord) (full : Type 0) (run : List RunStep) (old new : World) : Type 0 where
   pub calls : AreEntriesOf (calls_made output.Nothing run) (entries_of job.inverter book.entries)
   pub links : LinksAgree job run old.links new.links
   pub in_window : AllByRecursion (IsInTime job) (log run)
   pub requests : SendsWhole job run old new
   pub counted : min (old.faults + length (failures run)) (2 ^ 64 - 1) â‰¤ new.faults
-  pub goals : AreTold book job.inverter output.Nothing run 0
+  pub goals : AreTold (IsGoalAfter book) full job.inverter output.Nothing run 0
   pub sights : SeesWhatCame job run

@@ -9,6 +9,7 @@ use Rattle.ledger_desk.specs.Plain.{PlainRecord, joined}
 use Rattle.inverter_worker.specs.declared.state.Step.{Step}
 use Rattle.inverter_worker.specs.declared.state.Step.TheVariants.{Over}
 use Rattle.worker_turn.specs.Worker.{WorkerRecord, IsBetweenTurns}
+use Rattle.plant_run.specs.Works.{IsFull}
 use Rattle.plant_run.specs.Running.{EachWorks, IsOfOne, StayBehind}
 
 -- a desk of a whole life that was not rolled yet
@@ -46,7 +47,7 @@ pub record Grows (Fact : Entry → Type 0) (opened book : BookRecord) : Type 0 w
 pub record WorkOn {N : Type 0} (links : N → Option Links) (faults : N → ℕ) (may_give : ℕ → Bool)
     (opened book : BookRecord) (workers workers_now : List WorkerRecord) (dialers dialers_now : List N) : Type 0 where
   pub grows : Grows (IsOfOne workers) opened book
-  pub each : EachWorks links faults may_give opened book workers workers_now dialers dialers_now
+  pub each : EachWorks links faults may_give opened book (IsFull book) workers workers_now dialers dialers_now
   pub workers_stay : length workers_now ≡ length workers
   pub dialers_stay : length dialers_now ≡ length dialers
   pub behind : StayBehind (length workers) dialers dialers_now

@@ -39,14 +39,15 @@ pub record IsOfOne (workers : List WorkerRecord) (entry : Entry) : Type 0 where
   pub is : slice_get workers place ≡ Some worker
   pub own : is_workers worker.job.inverter entry.call ≡ true
 
--- What the worker at each place did with the dialer at that place, while a book grew from one to another.
+-- What the worker at each place did with the dialer at that place, while a book grew from one to another. Where one was
+-- told that a book is full, one was.
 abbrev pub EachWorks : {N : Type 0} → (links : N → Option Links) → (faults : N → ℕ) → (may_give : ℕ → Bool)
-    → (opened book : BookRecord) → (workers workers_now : List WorkerRecord) → (dialers dialers_now : List N) → Type 0
-EachWorks {N} links faults may_give opened book workers workers_now dialers dialers_now =
+    → (opened book : BookRecord) → (full : Type 0) → (workers workers_now : List WorkerRecord) → (dialers dialers_now : List N) → Type 0
+EachWorks {N} links faults may_give opened book full workers workers_now dialers dialers_now =
     (place : ℕ) (before after : WorkerRecord) (old new : N)
     → slice_get workers place ≡ Some before → slice_get workers_now place ≡ Some after
     → slice_get dialers place ≡ Some old → slice_get dialers_now place ≡ Some new
-    → Works may_give before.job opened book before after (links old) (links new) (faults old) (faults new)
+    → Works may_give before.job opened book full before after (links old) (links new) (faults old) (faults new)
 
 -- dialers that no worker has stay as they were
 abbrev pub StayBehind : {N : Type 0} → (count : ℕ) → (dialers dialers_now : List N) → Type 0

@@ -1,5 +1,5 @@
-//! The workers of a plant together, on one desk: `run_plain` gives each worker one turn after another until all are
-//! over.
+//! The workers of a plant together: `run_plain` gives each worker one turn after another, on one desk that nobody
+//! shares, until all are over; `run_out` gives one worker its turns to its end, through any desk.
 //!
 //! What one worker did over all its turns stands in `specs/Works.antt`, and what all did together in
 //! `specs/Running.antt`. How the book and the new links of a dialer agree with what a worker did
@@ -8,9 +8,11 @@
 
 mod laws;
 mod plain;
+mod turns;
 
 pub use laws::{links_agree, runs_agree};
 pub use plain::run_plain;
+pub use turns::run_out;
 
 #[cfg(test)]
 mod tests;

@@ -8,15 +8,16 @@ ghost use Rattle.plant_ledger.specs.Plant.{IsSafeLife};
 ghost use Rattle.ledger_desk.specs.Plain.{life_of};
 ghost use Rattle.worker_turn.specs.Worker.{IsBetweenTurns};
 ghost use Rattle.plant_run.specs.Own.{is_workers};
-ghost use Rattle.plant_run.specs.Works.{Works};
+ghost use Rattle.plant_run.specs.Works.{IsFull, Works};
 ghost use Rattle.plant_run.specs.Running.{EachWorker, EachWorks, IsNew, IsOfSite, IsOver, IsOfOne, Differ, StayBehind};
 ghost use Rattle.plant_run.specs.Rounds.{IsWhole, IsSeat, Grows, WorkOn, book_of, turns_left, all_left};
 
+use crate::turns::one_turn;
 use ledger_desk::PlainDesk;
 use plant_ledger::Plant;
 use std::alloc::Global;
-use worker_turn::{Turned, Worker};
-use world_traits::{Clock, Dialer, Watch};
+use worker_turn::Worker;
+use world_traits::{Clock, Dialer};
 
 /// Gives each worker one turn after another, in their order, round after round until all are over. The worker at a
 /// place uses the dialer at that place; further dialers are left alone. The plant comes back with the book that the
@@ -42,8 +43,8 @@ pub fn run_plain<N: Dialer, K: Clock>(
 
     // Each entry is a worker's. What each worker did, to its end, agrees with its entries and its dialer.
     ensures owned { AllByRecursion (IsOfOne workers.old.items) result.entries }
-    ensures works { EachWorks N.links N.faults (K.may_give clock.now) (first_book plant) (first_book result) workers.old.items
-        workers.new.items dialers.old.items dialers.new.items }
+    ensures works { EachWorks N.links N.faults (K.may_give clock.now) (first_book plant) (first_book result)
+        (IsFull (first_book result)) workers.old.items workers.new.items dialers.old.items dialers.new.items }
     ensures over { EachWorker IsOver workers.new.items }
 
     ensures workers_stay { vec_len workers.new ≡ vec_len workers.old }
@@ -68,8 +69,8 @@ fn make_rounds<N: Dialer, K: Clock>(
     requires differ { Differ workers.old }
     ensures whole { IsWhole desk.new }
     ensures life { life_of desk.new ≡ life_of desk.old }
-    ensures work { WorkOn N.links N.faults (K.may_give clock.now) (book_of desk.old) (book_of desk.new) workers.old workers.new dialers.old
-        dialers.new }
+    ensures work { WorkOn N.links N.faults (K.may_give clock.now) (book_of desk.old) (book_of desk.new)
+        workers.old workers.new dialers.old dialers.new }
     ensures over { EachWorker IsOver workers.new }
 {
     while round(desk, workers, dialers, clock) {}
@@ -90,22 +91,22 @@ fn round<N: Dialer, K: Clock>(
     ensures life { life_of desk.new ≡ life_of desk.old }
     ensures seats { EachWorker (IsSeat (inverters desk.new.book.site)) workers.new }
     ensures differ { Differ workers.new }
-    ensures work { WorkOn N.links N.faults (K.may_give clock.now) (book_of desk.old) (book_of desk.new) workers.old workers.new dialers.old
-        dialers.new }
+    ensures work { WorkOn N.links N.faults (K.may_give clock.now) (book_of desk.old) (book_of desk.new)
+        workers.old workers.new dialers.old dialers.new }
     ensures over { result ≡ false → EachWorker IsOver workers.new }
     ensures fewer { all_left workers.new + cond result 1 0 ≤ all_left workers.old }
 {
     let mut again = false;
     for place in 0..workers.len() {
-        if one_turn(&mut workers[place], desk, &mut dialers[place], clock) {
+        if turn_of_life(&mut workers[place], desk, &mut dialers[place], clock) {
             again = true;
         }
     }
     again
 }
 
-/// Gives a worker one turn, and tells whether it is ready for another.
-fn one_turn<N: Dialer, K: Clock>(
+/// Gives a worker one turn on the desk of a whole life, and tells whether it is ready for another.
+fn turn_of_life<N: Dialer, K: Clock>(
     worker: &mut Worker,
     desk: &mut PlainDesk,
     dialer: &mut N,
@@ -118,13 +119,11 @@ fn one_turn<N: Dialer, K: Clock>(
     ensures rests { IsBetweenTurns worker.new.state.step }
     ensures grows { Grows (λ entry. is_workers worker.old.job.inverter entry.call ≡ true) (book_of desk.old)
         (book_of desk.new) }
-    ensures works { Works (K.may_give clock.now) worker.old.job (book_of desk.old) (book_of desk.new) worker.old worker.new (N.links dialer.old)
-        (N.links dialer.new) (N.faults dialer.old) (N.faults dialer.new) }
+    ensures works { Works (K.may_give clock.now) worker.old.job (book_of desk.old) (book_of desk.new)
+        (IsFull (book_of desk.new)) worker.old worker.new (N.links dialer.old) (N.links dialer.new)
+        (N.faults dialer.old) (N.faults dialer.new) }
     ensures over { result ≡ false → IsOver worker.new }
     ensures fewer { turns_left worker.new + cond result 1 0 ≤ turns_left worker.old }
 {
-    matches!(
-        worker.turn(desk, dialer, &mut Watch::new(clock)),
-        Turned::Again
-    )
+    one_turn(worker, desk, dialer, clock)
 }
