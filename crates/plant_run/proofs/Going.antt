@@ -13,7 +13,8 @@ use Rattle.inverter_worker.specs.declared.input.Input.TheVariants as input
 use Rattle.inverter_worker.specs.declared.output.Output.TheVariants as output
 use Rattle.inverter_worker.specs.declared.output.Asked.{Asked}
 use Rattle.worker_turn.specs.Doing.{request_frame}
-use Rattle.plant_run.specs.Agreement.{Act, IsNoTransfer, Attempt, CutShort, attempt_in, attempts, HaveSent, arrival_in, arrivals, frame_inputs, answers, piece_answers, EndsWith, AgreesWith}
+use Rattle.plant_run.specs.Acts.{Act, IsNoTransfer, Attempt, CutShort, attempt_in, attempts, HaveSent}
+use Rattle.plant_run.specs.Agreement.{arrival_in, arrivals, frame_inputs, answers, piece_answers, EndsWith, AgreesWith}
 
 -- an act that sends nothing and receives nothing
 pub record Still (job : Job) (act : Act) : Type 0 where

@@ -9,4 +9,8 @@ pub mod Whole
 pub mod Standing
 pub mod Going
 pub mod Linking
+pub mod Numbering
+pub mod Filtering
+pub mod Entering
+pub mod Requesting
 pub mod Agreeing

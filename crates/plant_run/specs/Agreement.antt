@@ -13,6 +13,7 @@ use Rattle.inverter_worker.specs.declared.output.Output.{Output}
 use Rattle.inverter_worker.specs.declared.output.Output.TheVariants as output
 use Rattle.inverter_worker.specs.Runs.{RunStep, IsInTime, log}
 use Rattle.plant_book.specs.declared.call.Call.TheVariants as call
+use Rattle.plant_book.specs.Answered.{IsBook}
 use Rattle.plant_book.specs.Book.{BookRecord}
 use Rattle.worker_turn.specs.Doing.{World, AreDone, request_frame}
 use Rattle.worker_turn.specs.Agreeing.{AreEntriesOf, calls_made, failures}
@@ -20,63 +21,9 @@ use Rattle.worker_turn.specs.Requests.{IsRequested}
 use Rattle.worker_turn.specs.Sights.{IsSeen}
 use Rattle.worker_turn.specs.Turning.{pending}
 use Rattle.plant_run.specs.Own.{entries_of}
-use Rattle.plant_run.specs.Works.{AreTold}
-
--- an output that was done, with the input that came of it
-pub record Act : Type 0 where
-  pub output : Output
-  pub came : Input
-
--- the acts of a run, in order: of its first output, and of its steps
-abbrev pub acts : Output → List RunStep → List Act
-acts output [] = []
-acts output (next ∷ later) = record { output = output; came = next.input } ∷ acts next.output later
-
--- whether an input says that a link was dialed
-abbrev pub is_dialed : Input → Bool
-is_dialed input.Dialed = true
-is_dialed came = false
-
--- the acts before the first dial that worked
-abbrev pub before_links : List Act → List Act
-before_links [] = []
-before_links (act ∷ later) = if is_dialed act.came then [] else act ∷ before_links later
-
--- the acts on each link, in order: those behind each dial that worked, up to the next that did
-abbrev pub on_links : List Act → List (List Act)
-on_links [] = []
-on_links (act ∷ later) = if is_dialed act.came then before_links later ∷ on_links later else on_links later
-
--- an output that has nothing to do with the bytes of a link
-abbrev pub IsNoTransfer : Output → Type 0
-IsNoTransfer (output.Send request clock) = ⊥
-IsNoTransfer output.Receive = ⊥
-IsNoTransfer output = Unit {0}
-
--- a frame that was to be sent: it went out whole, or its send failed
-pub data Attempt : Type 0 where
-  Whole : Frame → Attempt
-  CutShort : Frame → Attempt
-
--- the frame of a request that was to be sent
-abbrev pub attempt_in : Job → Output → Input → List Attempt
-attempt_in job (output.Send request clock) input.SentAll = Whole (request_frame job request) ∷ []
-attempt_in job (output.Send request clock) input.SendFailed = CutShort (request_frame job request) ∷ []
-attempt_in job output came = []
-
--- the frames of all requests that were to be sent, in order
-abbrev pub attempts : Job → List Act → List Attempt
-attempts job done = flat_map (λ act. attempt_in job act.output act.came) done
-
--- These bytes were sent: each frame, in order. Only the last may be cut short, down to nothing, where its
--- send failed.
-abbrev pub HaveSent : List Attempt → List ℕ → Type 0
-HaveSent [] bytes = bytes ≡ []
-HaveSent (Whole frame ∷ later) bytes =
-    (others : List ℕ) × (bytes ≡ frame_spelling frame ++ others) × HaveSent later others
-HaveSent (CutShort frame ∷ []) bytes =
-    (count : ℕ) × (count < length (frame_spelling frame)) × (bytes ≡ take count (frame_spelling frame))
-HaveSent (CutShort frame ∷ another ∷ later) bytes = ⊥
+use Rattle.plant_run.specs.Works.{IsFull, AreTold}
+use Rattle.plant_run.specs.Acts.{Act, acts, before_links, on_links, IsNoTransfer, attempts, HaveSent}
+use Rattle.plant_run.specs.Requests.{RequestsAgree}
 
 -- what came of a wait for a frame
 abbrev pub arrival_in : Output → Input → List Input
@@ -177,3 +124,4 @@ pub record Agrees (job : Job) (book : BookRecord) (run : List RunStep) (old new 
   pub counted : min (old.faults + length (failures run)) (2 ^ 64 - 1) ≤ new.faults
   pub goals : AreTold book job.inverter output.Nothing run 0
   pub sights : SeesWhatCame job run
+  pub numbered : IsBook book → RequestsAgree (IsFull book) (entries_of job.inverter book.entries) run
