@@ -16,10 +16,11 @@ use Rattle.worker_turn.proofs.Agreeing.{entered, counted}
 use Rattle.worker_turn.proofs.Seeing.{seen_anywhere}
 use Rattle.worker_turn.proofs.Whole.{anywhere}
 use Rattle.plant_run.specs.Own.{entries_of, own_world}
-use Rattle.plant_run.specs.Works.{Works, AreTold}
+use Rattle.plant_run.specs.Works.{Works, IsFull, AreTold}
 use Rattle.plant_run.specs.Running.{IsNew}
 use Rattle.plant_run.specs.Agreement.{LinksAgree, Agrees}
 use Rattle.plant_run.proofs.Linking as linking
+use Rattle.plant_run.proofs.Numbered.{requests_agree, are_full}
 
 pub agree : (may_give : ℕ → Bool) (opened book : BookRecord) (before after : WorkerRecord) (links links_now : Option Links) (faults faults_now : ℕ)
     (works : Works may_give before.job opened book before after links links_now faults faults_now) → IsNew before → LinksAgree before.job works.run links links_now
@@ -52,4 +53,9 @@ agrees may_give opened book before after links links_now faults faults_now works
       sights = λ sofar later at inverter number raw is saw.
           seen_anywhere before.job before.state after.state sofar later at inverter number raw ready
           (subst (λ (run : List RunStep). LeadsTo before.job before.state run after.state) is works.leads) saw;
+      numbered = λ is.
+          requests_agree (IsFull book) before.job book works.run is.answered
+          (subst (λ (entries : List Entry). AreEntriesOf (calls_made output.Nothing works.run) entries) all gained.2)
+          before.state after.state ready works.leads works.rests
+          (are_full book before.job.inverter output.Nothing works.run (length (entries_of before.job.inverter opened.entries)) works.told);
     }

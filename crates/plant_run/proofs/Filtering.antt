@@ -30,7 +30,7 @@ all_of link [] same = refl
 all_of link (request ∷ requests) same =
     rw (eq-eqb (link_of request) link same.0) (ap (λ (t : List Asked). request ∷ t) (all_of link requests same.1))
 
-all_map : (P Q : Asked → Type 0) → ((request : Asked) → P request → Q request) → (requests : List Asked) → AllByRecursion P requests → AllByRecursion Q requests
+pub all_map : (P Q : Asked → Type 0) → ((request : Asked) → P request → Q request) → (requests : List Asked) → AllByRecursion P requests → AllByRecursion Q requests
 all_map P Q to [] all = tt
 all_map P Q to (request ∷ requests) all = (to request all.0, all_map P Q to requests all.1)
 

@@ -13,4 +13,5 @@ pub mod Numbering
 pub mod Filtering
 pub mod Entering
 pub mod Requesting
+pub mod Numbered
 pub mod Agreeing
