@@ -1,6 +1,7 @@
 -- What was done in a run, and on which of its links.
 use Rattle.std.specs.Prelude.{◌≡◌, ℕ, ◌<◌, Bool, true, false, List, [], ◌∷◌, ◌++◌, length, take, if◌then◌else◌}
-use Rattle.std.specs.List.{flat_map}
+use Rattle.std.specs.List.{AllByRecursion, flat_map}
+use Rattle.world_traits.specs.Links.{Receipt}
 use Rattle.mbap_frames.specs.declared.frame.Frame.{Frame}
 use Rattle.mbap_frames.specs.Frame.{frame_spelling}
 use Rattle.inverter_worker.specs.declared.job.Job.{Job}
@@ -66,3 +67,21 @@ HaveSent (Whole frame ∷ later) bytes =
 HaveSent (CutShort frame ∷ []) bytes =
     (count : ℕ) × (count < length (frame_spelling frame)) × (bytes ≡ take count (frame_spelling frame))
 HaveSent (CutShort frame ∷ another ∷ later) bytes = ⊥
+
+-- the bytes of a frame that went out whole
+abbrev pub whole : List Attempt → List ℕ
+whole (Whole frame ∷ []) = frame_spelling frame
+whole other = []
+
+-- a receive of a wait, before which so many bytes were sent on the link
+pub record IsCounted (act : Act) (sent : List ℕ) (receipt : Receipt) : Type 0 where
+  pub waits : act.output ≡ output.Receive
+  pub count : receipt.sent_before ≡ length sent
+
+-- The receipts of acts on a link on which these bytes were sent before, in order: each is of a wait, and counts the bytes
+-- sent before it, which are those and the frames that these acts had sent by then.
+abbrev pub AreCounted : Job → (sent : List ℕ) → List Act → List Receipt → Type 0
+AreCounted job sent [] receipts = receipts ≡ []
+AreCounted job sent (act ∷ later) receipts = (here : List Receipt) × (behind : List Receipt) × (receipts ≡ here ++ behind)
+    × AllByRecursion (IsCounted act sent) here
+    × AreCounted job (sent ++ whole (attempt_in job act.output act.came)) later behind

@@ -22,7 +22,7 @@ use Rattle.worker_turn.specs.Sights.{IsSeen}
 use Rattle.worker_turn.specs.Turning.{pending}
 use Rattle.plant_run.specs.Own.{entries_of}
 use Rattle.plant_run.specs.Works.{IsFull, AreTold}
-use Rattle.plant_run.specs.Acts.{Act, acts, before_links, on_links, IsNoTransfer, attempts, HaveSent}
+use Rattle.plant_run.specs.Acts.{Act, acts, before_links, on_links, IsNoTransfer, attempts, HaveSent, AreCounted}
 use Rattle.plant_run.specs.Requests.{RequestsAgree}
 
 -- what came of a wait for a frame
@@ -60,7 +60,7 @@ EndsWith _ _ unread = ⊥
 -- A link agrees with the acts on it. It was dialed where the job says, and the bytes sent on it are the
 -- frames of the requests. The waits gave frames, and then such an end; the receives answered pieces of bytes,
 -- and then the same end. The bytes of the pieces are those of the frames, in order, and then those never
--- handed out.
+-- handed out. Each receive counts the bytes that its acts had sent before it.
 pub record AgreesWith (job : Job) (done : List Act) (link : Link) : Type 0 where
   pub host : link.host ≡ job.port.host
   pub port : link.port ≡ job.port.port
@@ -75,6 +75,7 @@ pub record AgreesWith (job : Job) (done : List Act) (link : Link) : Type 0 where
   pub unread : List ℕ
   pub bytes : concat pieces ≡ frames_spelling frames ++ unread
   pub ends : EndsWith end silence unread
+  pub counted : AreCounted job [] done link.receipts
 
 -- each link agrees with the acts on it, and there are as many links as parts of the acts
 abbrev pub AgreesEach : Job → List (List Act) → List Link → Type 0
