@@ -1,5 +1,5 @@
 -- What a worker did from its first turn on agrees with the book and with its dialer.
-use Rattle.std.proofs.Common.{◌≡◌, ℕ, Bool, List, [], ◌∷◌, ◌++◌, length, Option, refl, sym, ap, subst, ◌∙◌}
+use Rattle.std.proofs.Common.{◌≡◌, ℕ, Bool, List, [], ◌++◌, length, Option, sym, ap, subst, ◌∙◌}
 use Rattle.world_traits.specs.Links.{Links}
 use Rattle.plant_book.specs.declared.book.Entry.{Entry}
 use Rattle.plant_book.specs.Book.{BookRecord}
@@ -20,6 +20,7 @@ use Rattle.plant_run.specs.Works.{Works, IsFull, AreTold}
 use Rattle.plant_run.specs.Running.{IsNew}
 use Rattle.plant_run.specs.Agreement.{LinksAgree, Agrees}
 use Rattle.plant_run.proofs.Linking as linking
+use Rattle.plant_run.proofs.Waiting.{waits_follow}
 use Rattle.plant_run.proofs.Numbered.{requests_agree, are_full}
 
 pub agree : (may_give : ℕ → Bool) (opened book : BookRecord) (before after : WorkerRecord) (links links_now : Option Links) (faults faults_now : ℕ)
@@ -53,6 +54,7 @@ agrees may_give opened book before after links links_now faults faults_now works
       sights = λ sofar later at inverter number raw is saw.
           seen_anywhere before.job before.state after.state sofar later at inverter number raw ready
           (subst (λ (run : List RunStep). LeadsTo before.job before.state run after.state) is works.leads) saw;
+      waits = waits_follow before.job before.state after.state works.run ready works.leads;
       numbered = λ is.
           requests_agree (IsFull book) before.job book works.run is.answered
           (subst (λ (entries : List Entry). AreEntriesOf (calls_made output.Nothing works.run) entries) all gained.2)

@@ -1,5 +1,5 @@
 -- Where a run enters a link, and where it numbers a request: so the table has it.
-use Rattle.std.proofs.Common.{◌≡◌, ℕ, Bool, true, false, cond, ltb, eqb, List, [], ◌∷◌, ◌++◌, Option, Some, None, refl, sym, subst}
+use Rattle.std.proofs.Common.{◌≡◌, ℕ, Bool, true, false, cond, ltb, eqb, [], Option, Some, None, refl, sym, subst}
 use Rattle.plant_book.specs.declared.call.Call.TheVariants as call
 use Rattle.plant_book.specs.declared.call.Read as reads
 use Rattle.plant_book.specs.declared.call.Reply.TheVariants as reply
@@ -9,7 +9,7 @@ use Rattle.readback.specs.Judging.{judgement}
 use Rattle.inverter_worker.specs.declared.job.Job.{Job}
 use Rattle.inverter_worker.specs.declared.input.Input.{Input}
 use Rattle.inverter_worker.specs.declared.input.Input.TheVariants as input
-use Rattle.inverter_worker.specs.declared.output.Asked.{Asked}
+use Rattle.inverter_worker.specs.declared.output.Asked.TheVariants as asked
 use Rattle.inverter_worker.specs.declared.output.Output.{Output}
 use Rattle.inverter_worker.specs.declared.output.Output.TheVariants as output
 use Rattle.inverter_worker.specs.declared.state.End.{End}
@@ -21,7 +21,7 @@ use Rattle.inverter_worker.specs.Table.{row, other_frame_row, judgement_row}
 use Rattle.inverter_worker.specs.Requests.{requests_in}
 use Rattle.worker_turn.specs.Agreeing.{made_by}
 use Rattle.plant_run.specs.Acts.{is_dialed}
-use Rattle.plant_run.specs.Requests.{linked_by, requested_by, links_in, requested}
+use Rattle.plant_run.specs.Requests.{links_in, requested}
 
 -- whether a link was dialed that the ledger has not entered yet
 abbrev pub is_entering : Step → Bool
@@ -70,12 +70,32 @@ Fits (LinkTiming raw) put = put ≡ output.Now
 Fits (Linking raw) put = (at : ℕ) × (inverter : ℕ) × (put ≡ output.Call (call.Link at inverter))
 Fits Asking put = (at : ℕ) × (inverter : ℕ) × (raw : ℕ) × (put ≡ output.Call (call.Ask at inverter raw))
 Fits ReadAsking put = (at : ℕ) × (inverter : ℕ) × (put ≡ output.Call (call.Read at inverter))
+Fits (Sending write) put = (clock : ℕ) × (put ≡ output.Send (asked.Write write) clock)
+Fits (SendingRead read) put = (clock : ℕ) × (put ≡ output.Send (asked.Read read) clock)
 Fits (Over end) put = put ≡ output.End
 Fits step put = IsApart put
 
+-- behind a send that took the whole frame, or a frame that came
+abbrev pub Behind : Step → Input → Type 0
+Behind (Sending write) input.SentAll = Unit {0}
+Behind (SendingRead read) input.SentAll = Unit {0}
+Behind (WaitWrite write) (input.Frame frame) = Unit {0}
+Behind (WaitRead read) (input.Frame frame) = Unit {0}
+Behind step came = ⊥
+
+abbrev pub IsNoWait : Output → Type 0
+IsNoWait output.Receive = ⊥
+IsNoWait put = Unit {0}
+
+-- only there a frame is waited for
+abbrev pub Waits : Step → Input → Step → Output → Type 0
+Waits step came (WaitWrite write) put = Behind step came
+Waits step came (WaitRead read) put = Behind step came
+Waits step came next put = IsNoWait put
+
 abbrev pub Keeps : Step → Input → Option (State × Output) → Type 0
 Keeps step came None = Unit {0}
-Keeps step came (Some next) = Move step came next.0.step × Fits next.0.step next.1
+Keeps step came (Some next) = Move step came next.0.step × Fits next.0.step next.1 × Waits step came next.0.step next.1
 
 either : (step : Step) (came : Input) (b : Bool) (x y : Option (State × Output)) → Keeps step came x → Keeps step came y → Keeps step came (cond b x y)
 either step came true x y p q = p
@@ -83,69 +103,70 @@ either step came false x y p q = q
 
 module _ (job : Job) (state : State) where
   passing_write : (write : _) (frame : _) → Keeps (WaitWrite write) (input.Frame frame) (other_frame_row state (WaitWrite write))
-  passing_write write frame = either (WaitWrite write) (input.Frame frame) (ltb state.skipped 7) _ _ (Along refl refl refl, tt)
-      (either (WaitWrite write) (input.Frame frame) (eqb state.skipped 7) _ _ (Along refl refl refl, tt) tt)
+  passing_write write frame = either (WaitWrite write) (input.Frame frame) (ltb state.skipped 7) _ _ (Along refl refl refl, tt, tt)
+      (either (WaitWrite write) (input.Frame frame) (eqb state.skipped 7) _ _ (Along refl refl refl, tt, tt) tt)
 
   passing_read : (read : reads.Read) (frame : _) → Keeps (WaitRead read) (input.Frame frame) (other_frame_row state (WaitRead read))
-  passing_read read frame = either (WaitRead read) (input.Frame frame) (ltb state.skipped 7) _ _ (Along refl refl refl, tt)
-      (either (WaitRead read) (input.Frame frame) (eqb state.skipped 7) _ _ (Along refl refl refl, tt) tt)
+  passing_read read frame = either (WaitRead read) (input.Frame frame) (ltb state.skipped 7) _ _ (Along refl refl refl, tt, tt)
+      (either (WaitRead read) (input.Frame frame) (eqb state.skipped 7) _ _ (Along refl refl refl, tt, tt) tt)
 
   judging : (read : reads.Read) (frame : _) (judged : Judged) → Keeps (WaitRead read) (input.Frame frame) (judgement_row state read judged)
-  judging read frame (Shows raw) = (Along refl refl refl, tt)
-  judging read frame (Differs point wanted found) = (Along refl refl refl, tt)
+  judging read frame (Shows raw) = (Along refl refl refl, tt, tt)
+  judging read frame (Differs point wanted found) = (Along refl refl refl, tt, tt)
   judging read frame (WrongNumber number) = passing_read read frame
-  judging read frame (WrongUnit unit) = (Along refl refl refl, tt)
-  judging read frame (Exception code) = (Along refl refl refl, tt)
-  judging read frame WrongReply = (Along refl refl refl, tt)
+  judging read frame (WrongUnit unit) = (Along refl refl refl, tt, tt)
+  judging read frame (Exception code) = (Along refl refl refl, tt, tt)
+  judging read frame WrongReply = (Along refl refl refl, tt, tt)
 
   rows : (step : Step) (came : Input) → Keeps step came (row job state step came)
-  rows Ready input.NoRoom = (Along refl refl refl, refl)
-  rows Ready input.Go = either Ready input.Go (eqb state.turns 0) _ _ (Along refl refl refl, refl) (Along refl refl refl, tt)
-  rows Aiming (input.Goal goal) = either Aiming (input.Goal goal) goal.stop _ _ (Along refl refl refl, refl)
-      (either Aiming (input.Goal goal) state.up _ _ (Along refl refl refl, tt) (Along refl refl refl, refl))
-  rows (Dialing raw) input.DialFailed = (Along refl refl refl, tt)
-  rows (Dialing raw) input.Dialed = (Dials raw refl refl refl, refl)
-  rows (LinkTiming raw) (input.Time c) = (Times raw c refl refl refl, (c, job.inverter, refl))
-  rows (Linking raw) (input.Reply (reply.Linked number)) = (Enters raw number refl refl refl, tt)
-  rows (Linking raw) input.Full = (Fills raw _ refl refl refl, refl)
+  rows Ready input.NoRoom = (Along refl refl refl, refl, tt)
+  rows Ready input.Go = either Ready input.Go (eqb state.turns 0) _ _ (Along refl refl refl, refl, tt) (Along refl refl refl, tt, tt)
+  rows Aiming (input.Goal goal) = either Aiming (input.Goal goal) goal.stop _ _ (Along refl refl refl, refl, tt)
+      (either Aiming (input.Goal goal) state.up _ _ (Along refl refl refl, tt, tt) (Along refl refl refl, refl, tt))
+  rows (Dialing raw) input.DialFailed = (Along refl refl refl, tt, tt)
+  rows (Dialing raw) input.Dialed = (Dials raw refl refl refl, refl, tt)
+  rows (LinkTiming raw) (input.Time c) = (Times raw c refl refl refl, (c, job.inverter, refl), tt)
+  rows (Linking raw) (input.Reply (reply.Linked number)) = (Enters raw number refl refl refl, tt, tt)
+  rows (Linking raw) input.Full = (Fills raw _ refl refl refl, refl, tt)
   rows (Timing raw) (input.Time c) = either (Timing raw) (input.Time c) (due job state.last c raw) _ _
-      (Along refl refl refl, (c, job.inverter, raw, refl)) (Along refl refl refl, (c, job.inverter, refl))
-  rows Asking (input.Reply (reply.Granted write)) = (Along refl refl refl, tt)
-  rows Asking (input.Reply reply.Spent) = (Along refl refl refl, tt)
-  rows Asking (input.Reply _) = (Along refl refl refl, tt)
-  rows Asking input.Full = (Along refl refl refl, refl)
-  rows (Window write) (input.Time c) = either (Window write) (input.Time c) (in_window job write c) _ _ (Along refl refl refl, tt) (Along refl refl refl, tt)
-  rows (ReleaseTiming write) (input.Reply _) = (Along refl refl refl, tt)
-  rows (ReleaseTiming write) input.Full = (Along refl refl refl, refl)
-  rows (Sending write) input.SentAll = (Along refl refl refl, tt)
-  rows (Sending write) input.SendFailed = (Along refl refl refl, tt)
+      (Along refl refl refl, (c, job.inverter, raw, refl), tt) (Along refl refl refl, (c, job.inverter, refl), tt)
+  rows Asking (input.Reply (reply.Granted write)) = (Along refl refl refl, tt, tt)
+  rows Asking (input.Reply reply.Spent) = (Along refl refl refl, tt, tt)
+  rows Asking (input.Reply _) = (Along refl refl refl, tt, tt)
+  rows Asking input.Full = (Along refl refl refl, refl, tt)
+  rows (Window write) (input.Time c) = either (Window write) (input.Time c) (in_window job write c) _ _
+      (Along refl refl refl, (c, refl), tt) (Along refl refl refl, tt, tt)
+  rows (ReleaseTiming write) (input.Reply _) = (Along refl refl refl, tt, tt)
+  rows (ReleaseTiming write) input.Full = (Along refl refl refl, refl, tt)
+  rows (Sending write) input.SentAll = (Along refl refl refl, tt, tt)
+  rows (Sending write) input.SendFailed = (Along refl refl refl, tt, tt)
   rows (WaitWrite write) (input.Frame frame) =
-      either (WaitWrite write) (input.Frame frame) (eqb frame.transaction write.number) _ _ (Along refl refl refl, tt) (passing_write write frame)
-  rows (WaitWrite write) input.Quiet = (Along refl refl refl, tt)
-  rows (WaitWrite write) input.Closed = (Along refl refl refl, tt)
-  rows (WaitWrite write) input.RecvFailed = (Along refl refl refl, tt)
-  rows (WaitWrite write) input.BadFrame = (Along refl refl refl, tt)
-  rows ReadTiming (input.Time c) = (Along refl refl refl, (c, job.inverter, refl))
-  rows ReadAsking (input.Reply (reply.ReadAs read)) = (Along refl refl refl, tt)
-  rows ReadAsking (input.Reply _) = (Along refl refl refl, tt)
-  rows ReadAsking input.Full = (Along refl refl refl, refl)
-  rows (ReadWindow read) (input.Time c) = (Along refl refl refl, tt)
-  rows (SendingRead read) input.SentAll = (Along refl refl refl, tt)
-  rows (SendingRead read) input.SendFailed = (Along refl refl refl, tt)
+      either (WaitWrite write) (input.Frame frame) (eqb frame.transaction write.number) _ _ (Along refl refl refl, tt, tt) (passing_write write frame)
+  rows (WaitWrite write) input.Quiet = (Along refl refl refl, tt, tt)
+  rows (WaitWrite write) input.Closed = (Along refl refl refl, tt, tt)
+  rows (WaitWrite write) input.RecvFailed = (Along refl refl refl, tt, tt)
+  rows (WaitWrite write) input.BadFrame = (Along refl refl refl, tt, tt)
+  rows ReadTiming (input.Time c) = (Along refl refl refl, (c, job.inverter, refl), tt)
+  rows ReadAsking (input.Reply (reply.ReadAs read)) = (Along refl refl refl, tt, tt)
+  rows ReadAsking (input.Reply _) = (Along refl refl refl, tt, tt)
+  rows ReadAsking input.Full = (Along refl refl refl, refl, tt)
+  rows (ReadWindow read) (input.Time c) = (Along refl refl refl, (c, refl), tt)
+  rows (SendingRead read) input.SentAll = (Along refl refl refl, tt, tt)
+  rows (SendingRead read) input.SendFailed = (Along refl refl refl, tt, tt)
   rows (WaitRead read) (input.Frame frame) = judging read frame (judgement read job.unit job.port job.rules frame)
-  rows (WaitRead read) input.Quiet = (Along refl refl refl, tt)
-  rows (WaitRead read) input.Closed = (Along refl refl refl, tt)
-  rows (WaitRead read) input.RecvFailed = (Along refl refl refl, tt)
-  rows (WaitRead read) input.BadFrame = (Along refl refl refl, tt)
-  rows (SawTiming read raw) (input.Time c) = (Along refl refl refl, tt)
-  rows SawAsking (input.Reply _) = (Along refl refl refl, tt)
-  rows SawAsking input.Full = (Along refl refl refl, refl)
-  rows Closing input.HungUp = (Along refl refl refl, tt)
-  rows (UnfitClosing point wanted found) input.HungUp = (Along refl refl refl, refl)
-  rows Resting input.Rested = (Along refl refl refl, tt)
+  rows (WaitRead read) input.Quiet = (Along refl refl refl, tt, tt)
+  rows (WaitRead read) input.Closed = (Along refl refl refl, tt, tt)
+  rows (WaitRead read) input.RecvFailed = (Along refl refl refl, tt, tt)
+  rows (WaitRead read) input.BadFrame = (Along refl refl refl, tt, tt)
+  rows (SawTiming read raw) (input.Time c) = (Along refl refl refl, tt, tt)
+  rows SawAsking (input.Reply _) = (Along refl refl refl, tt, tt)
+  rows SawAsking input.Full = (Along refl refl refl, refl, tt)
+  rows Closing input.HungUp = (Along refl refl refl, tt, tt)
+  rows (UnfitClosing point wanted found) input.HungUp = (Along refl refl refl, refl, tt)
+  rows Resting input.Rested = (Along refl refl refl, tt, tt)
   rows step came = tt
 
-pub kept : (job : Job) (from next : State) (came : Input) (put : Output) → row job from from.step came ≡ Some (next, put) → Move from.step came next.step × Fits next.step put
+pub kept : (job : Job) (from next : State) (came : Input) (put : Output) → row job from from.step came ≡ Some (next, put) → Move from.step came next.step × Fits next.step put × Waits from.step came next.step put
 kept job from next came put is =
     let P : Option (State × Output) → Type 0 = λ row. Keeps from.step came row in subst P is (rows job from from.step came)
 
@@ -164,10 +185,10 @@ apart_linked (output.Call called) (input.Reply answer) apart = refl
 apart_linked (output.Release write at) (input.Reply answer) apart = refl
 apart_linked put came apart = refl
 
-asked : (at inverter raw : ℕ) (came : Input) → requested (made_by (output.Call (call.Ask at inverter raw)) came) ≡ requests_in Asking came
-asked at inverter raw (input.Reply (reply.Granted write)) = refl
-asked at inverter raw (input.Reply answer) = refl
-asked at inverter raw came = refl
+asked_ask : (at inverter raw : ℕ) (came : Input) → requested (made_by (output.Call (call.Ask at inverter raw)) came) ≡ requests_in Asking came
+asked_ask at inverter raw (input.Reply (reply.Granted write)) = refl
+asked_ask at inverter raw (input.Reply answer) = refl
+asked_ask at inverter raw came = refl
 
 asked_read : (at inverter : ℕ) (came : Input) → requested (made_by (output.Call (call.Read at inverter)) came) ≡ requests_in ReadAsking came
 asked_read at inverter (input.Reply (reply.ReadAs made)) = refl
@@ -191,8 +212,10 @@ pub requested_here : (step : Step) (put : Output) (came : Input) → Fits step p
 requested_here (Dialing raw) put came fits = subst (λ (o : Output). requested (made_by o came) ≡ []) (sym fits) refl
 requested_here (LinkTiming raw) put came fits = subst (λ (o : Output). requested (made_by o came) ≡ []) (sym fits) refl
 requested_here (Linking raw) put came fits = subst (λ (o : Output). requested (made_by o came) ≡ []) (sym fits.2) (linked fits.0 fits.1 came)
-requested_here Asking put came fits = subst (λ (o : Output). requested (made_by o came) ≡ requests_in Asking came) (sym fits.3) (asked fits.0 fits.1 fits.2 came)
+requested_here Asking put came fits = subst (λ (o : Output). requested (made_by o came) ≡ requests_in Asking came) (sym fits.3) (asked_ask fits.0 fits.1 fits.2 came)
 requested_here ReadAsking put came fits = subst (λ (o : Output). requested (made_by o came) ≡ requests_in ReadAsking came) (sym fits.2) (asked_read fits.0 fits.1 came)
+requested_here (Sending write) put came fits = subst (λ (o : Output). requested (made_by o came) ≡ []) (sym fits.1) refl
+requested_here (SendingRead read) put came fits = subst (λ (o : Output). requested (made_by o came) ≡ []) (sym fits.1) refl
 requested_here (Over end) put came fits = subst (λ (o : Output). requested (made_by o came) ≡ []) (sym fits) refl
 requested_here step put came fits = apart_requested put came fits
 
@@ -203,5 +226,7 @@ linked_here (LinkTiming raw) put came not fits = absurd cc
 linked_here (Linking raw) put came not fits = absurd cc
 linked_here Asking put came not fits = subst (λ (o : Output). links_in (made_by o came) ≡ []) (sym fits.3) (asked_linked fits.0 fits.1 fits.2 came)
 linked_here ReadAsking put came not fits = subst (λ (o : Output). links_in (made_by o came) ≡ []) (sym fits.2) (read_linked fits.0 fits.1 came)
+linked_here (Sending write) put came not fits = subst (λ (o : Output). links_in (made_by o came) ≡ []) (sym fits.1) refl
+linked_here (SendingRead read) put came not fits = subst (λ (o : Output). links_in (made_by o came) ≡ []) (sym fits.1) refl
 linked_here (Over end) put came not fits = subst (λ (o : Output). links_in (made_by o came) ≡ []) (sym fits) refl
 linked_here step put came not fits = apart_linked put came fits

@@ -1,5 +1,5 @@
 -- The requests of one link among those that entries tell of.
-use Rattle.std.proofs.Common.{◌≡◌, ◌≢◌, ℕ, ◌+◌, ◌<◌, ◌≤◌, Bool, true, false, eqb, List, [], ◌∷◌, ◌++◌, length, refl, sym, ap, subst, ◌∙◌, arith, append-nil, length-append}
+use Rattle.std.proofs.Common.{◌≡◌, ◌≢◌, ℕ, ◌+◌, ◌<◌, ◌≤◌, Bool, true, false, eqb, List, [], ◌∷◌, ◌++◌, length, refl, sym, ap, subst, ◌∙◌, arith}
 use Rattle.std.specs.Prelude.{filter, ◌==◌}
 use Rattle.std.specs.List.{AllByRecursion}
 use Rattle.std.proofs.lemmas.Bool.{eqb-true, eqb-false, eq-eqb, ne_eqb}
@@ -10,7 +10,6 @@ use Rattle.plant_book.specs.declared.call.Reply.{Reply}
 use Rattle.plant_book.specs.declared.call.Reply.TheVariants as reply
 use Rattle.plant_book.specs.declared.book.Entry.{Entry}
 use Rattle.inverter_worker.specs.declared.output.Asked.{Asked}
-use Rattle.worker_turn.specs.Requests.{request_number}
 use Rattle.plant_run.specs.Requests.{linked_by, requested_by, link_of, requested, requests_on, AreNumbered}
 use Rattle.plant_run.proofs.Numbering.{IsNumberedBy, sent_after, AreNumberedBy}
 

@@ -135,7 +135,7 @@ goes_still job act done unread link final still goes = record {
     refl,
     tt,
     let P : List ℕ → Type 0 = λ t. AreCounted job t done goes.gained in
-    subst P (sym (ap (λ (t : List Attempt). link.sent ++ whole t) still.attempt ∙ append-nil link.sent)) goes.counted,
+        subst P (sym (ap (λ (t : List Attempt). link.sent ++ whole t) still.attempt ∙ append-nil link.sent)) goes.counted,
   );
 }
 

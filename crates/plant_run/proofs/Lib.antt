@@ -12,6 +12,7 @@ pub mod Linking
 pub mod Numbering
 pub mod Filtering
 pub mod Entering
+pub mod Waiting
 pub mod Requesting
 pub mod Numbered
 pub mod Agreeing

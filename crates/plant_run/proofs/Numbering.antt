@@ -1,14 +1,13 @@
 -- How the ledger numbers the links and the requests of an inverter.
-use Rattle.std.proofs.Common.{◌≡◌, ℕ, ◌+◌, ◌<◌, ◌≤◌, Bool, true, false, cond, eqb, leb, List, [], ◌∷◌, ◌++◌, length, refl, sym, ap, subst, ◌∙◌, arith}
+use Rattle.std.proofs.Common.{◌≡◌, ℕ, ◌+◌, ◌≤◌, Bool, true, false, cond, eqb, List, [], ◌∷◌, ◌++◌, length, refl, sym, ap, subst, ◌∙◌, arith}
 use Rattle.std.specs.List.{AllByRecursion}
-use Rattle.std.proofs.lemmas.Bool.{cases_Bool, eqb-true, eqb-false, eq-eqb}
+use Rattle.std.proofs.lemmas.Bool.{eqb-true, eqb-false}
 use Rattle.plant_book.specs.declared.call.Call.{Call}
 use Rattle.plant_book.specs.declared.call.Call.TheVariants as call
 use Rattle.plant_book.specs.declared.call.Reply.{Reply}
 use Rattle.plant_book.specs.declared.call.Reply.TheVariants as reply
 use Rattle.plant_book.specs.declared.call.Read as reads
 use Rattle.plant_book.specs.declared.call.Write as writes
-use Rattle.plant_book.specs.declared.call.TheConstants.{REQUESTS_MAX}
 use Rattle.plant_book.specs.declared.book.Entry.{Entry}
 use Rattle.plant_book.specs.Book.{BookRecord}
 use Rattle.plant_book.specs.Calls.{at_moment}
@@ -259,8 +258,11 @@ numbered_same (own ∷ made) (entry ∷ entries) entered sent are all =
     let Q : List ℕ → Type 0 = λ ls. AllByRecursion (IsNumberedBy entered sent) (requested_by own.call own.reply)
     × AllByRecursion (λ (number : ℕ). number ≡ entered + 1) ls
     × AreNumberedBy (entered + length ls) (sent_after ls (sent + length (requested_by own.call own.reply))) entries in
-    let moved = subst Q linked (subst P requests all) in
-    (moved.0, moved.1, numbered_same made entries (entered + length (linked_by own.call own.reply))
-    (sent_after (linked_by own.call own.reply) (sent + length (requested_by own.call own.reply))) are.1 moved.2)
+    let moved = subst Q linked (subst P requests all) in (
+      moved.0,
+      moved.1,
+      numbered_same made entries (entered + length (linked_by own.call own.reply))
+          (sent_after (linked_by own.call own.reply) (sent + length (requested_by own.call own.reply))) are.1 moved.2,
+    )
 numbered_same [] (entry ∷ entries) entered sent are all = absurd are
 numbered_same (own ∷ made) [] entered sent are all = absurd are

@@ -16,7 +16,7 @@ use Rattle.inverter_worker.specs.declared.output.Output.TheVariants as output
 use Rattle.inverter_worker.specs.declared.state.End.{End}
 use Rattle.inverter_worker.specs.declared.state.State.{State}
 use Rattle.inverter_worker.specs.declared.state.Step.{Step}
-use Rattle.inverter_worker.specs.declared.state.Step.TheVariants.{Ready, Dialing, LinkTiming, Linking, Timing, Over}
+use Rattle.inverter_worker.specs.declared.state.Step.TheVariants.{Ready, Dialing, Timing, Over}
 use Rattle.inverter_worker.specs.Requests.{requests_in, requests_out, request_next}
 use Rattle.inverter_worker.specs.Runs.{RunStep, LeadsTo}
 use Rattle.inverter_worker.proofs.Requests.{requests_kept}
@@ -24,7 +24,7 @@ use Rattle.worker_turn.specs.Agreeing.{made_by}
 use Rattle.worker_turn.specs.Turning.{pending}
 use Rattle.plant_run.specs.Acts.{Act, acts, is_dialed, before_links, on_links}
 use Rattle.plant_run.specs.Works.{IsAtRest}
-use Rattle.plant_run.specs.Requests.{linked_by, requested_by, link_of, links_in, requested, requests_on, AreNumbered, entries_in, handled, IsLinkOf, IsLeftOut, AreLinksOf}
+use Rattle.plant_run.specs.Requests.{linked_by, requested_by, link_of, links_in, requested, requests_on, AreNumbered, entries_in, handled, AreLinksOf}
 use Rattle.plant_run.proofs.Numbering.{IsNumberedBy, sent_after, AreNumberedBy}
 use Rattle.plant_run.proofs.Filtering.{of_link, IsBelow, all_joined, above, below_none, on_link, below_next, none_earlier}
 use Rattle.plant_run.proofs.Linking.{before_more, on_more}
@@ -210,29 +210,29 @@ module _ (full : Type 0) (all : List Entry) (rise : (link : ℕ) → 1 ≤ link 
   back : (step : Step) (came : Input) (next : Step) → Move step came next → Back step came next
   back = by_move Back
       (λ step came next first last apart links put put_next later fits fits_next moved fulls over before rest.
-        let P : Bool → Type 0 = λ b. Comes b links (due step put) (record { output = put; came = came } ∷ later) in
-        let Q : Bool → Type 0 = λ b. Comes b links (due next put_next) later in
-        subst P (sym first) (along links put came later before step next put_next fits first apart moved
-        (subst Q last (rest links (behind_none links put came later before (linked_here step put came first fits))))))
+      let P : Bool → Type 0 = λ b. Comes b links (due step put) (record { output = put; came = came } ∷ later) in
+      let Q : Bool → Type 0 = λ b. Comes b links (due next put_next) later in
+      subst P (sym first) (along links put came later before step next put_next fits first apart moved
+      (subst Q last (rest links (behind_none links put came later before (linked_here step put came first fits))))))
       (λ raw links put put_next later fits fits_next moved fulls over before rest.
-        let P : Output → Type 0 = λ o. Before links (record { output = o; came = input.Dialed } ∷ later)
-        → Entered links (due (Dialing raw) o) (record { output = o; came = input.Dialed } ∷ later) in
-        subst P (sym fits) (λ here. dials links raw later (rest links (behind_none links output.Dial input.Dialed later here refl))) before)
+      let P : Output → Type 0 = λ o. Before links (record { output = o; came = input.Dialed } ∷ later)
+      → Entered links (due (Dialing raw) o) (record { output = o; came = input.Dialed } ∷ later) in
+      subst P (sym fits) (λ here. dials links raw later (rest links (behind_none links output.Dial input.Dialed later here refl))) before)
       (λ raw clock links put put_next later fits fits_next moved fulls over before rest.
-        let P : Output → Type 0 = λ o. Before links (record { output = o; came = input.Time clock } ∷ later)
-        → Entering links (record { output = o; came = input.Time clock } ∷ later) in
-        subst P (sym fits) (λ here. times links raw clock later (rest links (behind_none links output.Now (input.Time clock) later here refl))) before)
+      let P : Output → Type 0 = λ o. Before links (record { output = o; came = input.Time clock } ∷ later)
+      → Entering links (record { output = o; came = input.Time clock } ∷ later) in
+      subst P (sym fits) (λ here. times links raw clock later (rest links (behind_none links output.Now (input.Time clock) later here refl))) before)
       (λ raw number links put put_next later fits fits_next moved fulls over before rest.
-        let P : Output → Type 0 = λ o. Before links (record { output = o; came = input.Reply (reply.Linked number) } ∷ later)
-        → Entering links (record { output = o; came = input.Reply (reply.Linked number) } ∷ later) in
-        subst P (sym fits.2) (λ here. enters links raw number fits.0 fits.1 put_next later here moved
-        (rest (links + 1) (behind links (output.Call (call.Link fits.0 fits.1)) (input.Reply (reply.Linked number)) later here))) before)
+      let P : Output → Type 0 = λ o. Before links (record { output = o; came = input.Reply (reply.Linked number) } ∷ later)
+      → Entering links (record { output = o; came = input.Reply (reply.Linked number) } ∷ later) in
+      subst P (sym fits.2) (λ here. enters links raw number fits.0 fits.1 put_next later here moved
+      (rest (links + 1) (behind links (output.Call (call.Link fits.0 fits.1)) (input.Reply (reply.Linked number)) later here))) before)
       (λ raw end links put put_next later fits fits_next moved fulls over before rest.
-        let P : Output → Type 0 = λ o. Before links (record { output = o; came = input.Full } ∷ later)
-        → Entering links (record { output = o; came = input.Full } ∷ later) in
-        let Q : List Act → Type 0 = λ t. Before links (record { output = output.Call (call.Link fits.0 fits.1); came = input.Full } ∷ t)
-        → Entering links (record { output = output.Call (call.Link fits.0 fits.1); came = input.Full } ∷ t) in
-        subst P (sym fits.2) (subst Q (sym (over end refl)) (λ here. fills links fits.0 fits.1 (fulls refl) here)) before)
+      let P : Output → Type 0 = λ o. Before links (record { output = o; came = input.Full } ∷ later)
+      → Entering links (record { output = o; came = input.Full } ∷ later) in
+      let Q : List Act → Type 0 = λ t. Before links (record { output = output.Call (call.Link fits.0 fits.1); came = input.Full } ∷ t)
+      → Entering links (record { output = output.Call (call.Link fits.0 fits.1); came = input.Full } ∷ t) in
+      subst P (sym fits.2) (subst Q (sym (over end refl)) (λ here. fills links fits.0 fits.1 (fulls refl) here)) before)
 
   -- a run at rest leaves nothing to be sent or given back
   at_rest : (step : Step) (put : Output) (links : ℕ) → Fits step put → IsAtRest step put → length (links_in all) ≡ links → Comes (is_entering step) links (due step put) []

@@ -85,3 +85,16 @@ AreCounted job sent [] receipts = receipts ≡ []
 AreCounted job sent (act ∷ later) receipts = (here : List Receipt) × (behind : List Receipt) × (receipts ≡ here ++ behind)
     × AllByRecursion (IsCounted act sent) here
     × AreCounted job (sent ++ whole (attempt_in job act.output act.came)) later behind
+
+-- the last of these frames went out whole
+pub record EndsWhole (before : List Attempt) : Type 0 where
+  pub earlier : List Attempt
+  pub frame : Frame
+  pub is : before ≡ earlier ++ Whole frame ∷ []
+
+-- Each wait of acts on a link, on which these frames were to be sent before, stands behind a frame that went out whole,
+-- which was the last that was to be sent.
+abbrev pub WaitsFollow : Job → (before : List Attempt) → List Act → Type 0
+WaitsFollow job before [] = Unit {0}
+WaitsFollow job before (act ∷ later) = (act.output ≡ output.Receive → EndsWhole before)
+    × WaitsFollow job (before ++ attempt_in job act.output act.came) later

@@ -1,10 +1,10 @@
 -- What a whole run of a worker has to do with the links of its dialer, link by link, and with the book.
-use Rattle.std.specs.Prelude.{◌≡◌, ℕ, ◌+◌, ◌-◌, ◌^◌, ◌<◌, ◌≤◌, Bool, true, false, List, [], ◌∷◌, ◌++◌, Option, Some, length, map, min, take, if◌then◌else◌}
+use Rattle.std.specs.Prelude.{◌≡◌, ℕ, ◌+◌, ◌-◌, ◌^◌, ◌≤◌, List, [], ◌∷◌, ◌++◌, Option, Some, length, map, min}
 use Rattle.std.specs.List.{AllByRecursion, concat, flat_map}
 use Rattle.world_traits.specs.Links.{Answer, Bytes, Quiet, Closed, Failed, Link, Links, all_links}
 use Rattle.mbap_frames.specs.declared.frame.Frame.{Frame}
 use Rattle.mbap_frames.specs.declared.frame.FrameFault.{FrameFault}
-use Rattle.mbap_frames.specs.Frame.{IsFrame, frame_spelling}
+use Rattle.mbap_frames.specs.Frame.{IsFrame}
 use Rattle.mbap_frames.specs.Stream.{IsUnfinished, HasFault, frames_spelling}
 use Rattle.inverter_worker.specs.declared.job.Job.{Job}
 use Rattle.inverter_worker.specs.declared.input.Input.{Input}
@@ -15,14 +15,14 @@ use Rattle.inverter_worker.specs.Runs.{RunStep, IsInTime, log}
 use Rattle.plant_book.specs.declared.call.Call.TheVariants as call
 use Rattle.plant_book.specs.Answered.{IsBook}
 use Rattle.plant_book.specs.Book.{BookRecord}
-use Rattle.worker_turn.specs.Doing.{World, AreDone, request_frame}
+use Rattle.worker_turn.specs.Doing.{World, AreDone}
 use Rattle.worker_turn.specs.Agreeing.{AreEntriesOf, calls_made, failures}
 use Rattle.worker_turn.specs.Requests.{IsRequested}
 use Rattle.worker_turn.specs.Sights.{IsSeen}
 use Rattle.worker_turn.specs.Turning.{pending}
 use Rattle.plant_run.specs.Own.{entries_of}
 use Rattle.plant_run.specs.Works.{IsFull, AreTold}
-use Rattle.plant_run.specs.Acts.{Act, acts, before_links, on_links, IsNoTransfer, attempts, HaveSent, AreCounted}
+use Rattle.plant_run.specs.Acts.{Act, acts, before_links, on_links, IsNoTransfer, attempts, HaveSent, AreCounted, WaitsFollow}
 use Rattle.plant_run.specs.Requests.{RequestsAgree}
 
 -- what came of a wait for a frame
@@ -125,4 +125,5 @@ pub record Agrees (job : Job) (book : BookRecord) (run : List RunStep) (old new 
   pub counted : min (old.faults + length (failures run)) (2 ^ 64 - 1) ≤ new.faults
   pub goals : AreTold book job.inverter output.Nothing run 0
   pub sights : SeesWhatCame job run
+  pub waits : AllByRecursion (WaitsFollow job []) (on_links (acts output.Nothing run))
   pub numbered : IsBook book → RequestsAgree (IsFull book) (entries_of job.inverter book.entries) run
