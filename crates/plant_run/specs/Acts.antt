@@ -1,5 +1,6 @@
 -- What was done in a run, and on which of its links.
-use Rattle.std.specs.Prelude.{◌≡◌, ℕ, ◌<◌, Bool, true, false, List, [], ◌∷◌, ◌++◌, length, take, if◌then◌else◌}
+use Rattle.std.specs.Prelude.{◌≡◌, ℕ, ◌<◌, Bool, true, false, if◌then◌else◌}
+use Rattle.std.specs.Prelude.{List, [], ◌∷◌, ◌++◌, length, take}
 use Rattle.std.specs.List.{AllByRecursion, flat_map}
 use Rattle.world_traits.specs.Links.{Receipt}
 use Rattle.mbap_frames.specs.declared.frame.Frame.{Frame}
@@ -78,8 +79,8 @@ pub record IsCounted (act : Act) (sent : List ℕ) (receipt : Receipt) : Type 0 
   pub waits : act.output ≡ output.Receive
   pub count : receipt.sent_before ≡ length sent
 
--- The receipts of acts on a link on which these bytes were sent before, in order: each is of a wait, and counts the bytes
--- sent before it, which are those and the frames that these acts had sent by then.
+-- The receipts of acts on a link on which these bytes were sent before, in order: each is of a wait, and counts the
+-- bytes sent before it, which are those and the frames that these acts had sent by then.
 abbrev pub AreCounted : Job → (sent : List ℕ) → List Act → List Receipt → Type 0
 AreCounted job sent [] receipts = receipts ≡ []
 AreCounted job sent (act ∷ later) receipts = (here : List Receipt) × (behind : List Receipt) × (receipts ≡ here ++ behind)

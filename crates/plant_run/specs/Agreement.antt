@@ -116,7 +116,8 @@ SeesWhatCame job run = (sofar later : List RunStep) (at inverter number raw : â„
 -- What a worker's run, from its first turn on, has to do with the book and with its dialer. Its calls with their replies
 -- are the book's entries of its inverter. Its dialer's new links agree with it, one by one. Its writes were sent in their
 -- windows, and each request was whole before its reply was waited for. What failed was counted. Each goal is that of the
--- book after some of its first entries, and each Saw has its frame.
+-- book after some of its first entries, and each Saw has its frame. Each wait on a link stands behind a whole frame. Where
+-- the book's replies are right, what was sent on each link are the requests that the ledger numbered there.
 pub record Agrees (job : Job) (book : BookRecord) (run : List RunStep) (old new : World) : Type 0 where
   pub calls : AreEntriesOf (calls_made output.Nothing run) (entries_of job.inverter book.entries)
   pub links : LinksAgree job run old.links new.links

@@ -73,14 +73,16 @@ pub record IsLeftOut (full : Type 0) (done : List Act) : Type 0 where
 abbrev pub IsNext : List Entry → (number : ℕ) → Type 0
 IsNext entries number = number ≡ length (links_in entries) + 1
 
--- The acts on the links from this number on: each was entered under the next number, and all that the ledger entered are
--- here. One more may stand last that a full book left out.
+-- The acts on the links from this number on: each was entered under the next number, and all that the ledger entered
+-- are here. One more may stand last that a full book left out.
 abbrev pub AreLinksOf : (full : Type 0) → List Entry → (number : ℕ) → List (List Act) → Type 0
 AreLinksOf full entries number [] = IsNext entries number
-AreLinksOf full entries number (done ∷ others) = (IsLinkOf entries number done × AreLinksOf full entries (number + 1) others)
+AreLinksOf full entries number (done ∷ others) =
+    (IsLinkOf entries number done × AreLinksOf full entries (number + 1) others)
     ⊎ (IsLeftOut full done × IsNext entries number × (others ≡ []))
 
--- A run agrees with the entries of its inverter in what it sent, link by link. Before its first link there was no request.
+-- A run agrees with the entries of its inverter in what it sent, link by link. Before its first link there was no
+-- request.
 pub record RequestsAgree (full : Type 0) (entries : List Entry) (run : List RunStep) : Type 0 where
   pub none_before : handled (before_links (acts output.Nothing run)) ≡ []
   pub on_each : AreLinksOf full entries 1 (on_links (acts output.Nothing run))
