@@ -21,6 +21,7 @@ use Rattle.plant_run.specs.Running.{IsNew}
 use Rattle.plant_run.specs.Agreement.{LinksAgree, Agrees}
 use Rattle.plant_run.proofs.Linking as linking
 use Rattle.plant_run.proofs.Waiting.{waits_follow}
+use Rattle.plant_run.proofs.Receiving.{receives_follow}
 use Rattle.plant_run.proofs.Numbered.{requests_agree, are_full}
 
 pub agree : (may_give : ℕ → Bool) (opened book : BookRecord) (before after : WorkerRecord) (links links_now : Option Links) (faults faults_now : ℕ)
@@ -54,7 +55,9 @@ agrees may_give opened book before after links links_now faults faults_now works
       sights = λ sofar later at inverter number raw is saw.
           seen_anywhere before.job before.state after.state sofar later at inverter number raw ready
           (subst (λ (run : List RunStep). LeadsTo before.job before.state run after.state) is works.leads) saw;
-      waits = waits_follow before.job before.state after.state works.run ready works.leads;
+      receives = receives_follow before.job works.run links links_now
+          (agree may_give opened book before after links links_now faults faults_now works new)
+          (waits_follow before.job before.state after.state works.run ready works.leads);
       numbered = λ is.
           requests_agree (IsFull book) before.job book works.run is.answered
           (subst (λ (entries : List Entry). AreEntriesOf (calls_made output.Nothing works.run) entries) all gained.2)

@@ -13,6 +13,7 @@ pub mod Numbering
 pub mod Filtering
 pub mod Entering
 pub mod Waiting
+pub mod Receiving
 pub mod Requesting
 pub mod Numbered
 pub mod Agreeing

@@ -13,9 +13,16 @@ use Rattle.inverter_worker.specs.declared.state.Step.TheVariants.{Ready, Sending
 use Rattle.inverter_worker.specs.Runs.{RunStep, LeadsTo}
 use Rattle.mbap_frames.specs.declared.frame.Frame.{Frame}
 use Rattle.worker_turn.specs.Doing.{request_frame}
-use Rattle.plant_run.specs.Acts.{Act, acts, is_dialed, before_links, on_links, Attempt, attempt_in, EndsWhole, WaitsFollow}
+use Rattle.plant_run.specs.Acts.{Act, acts, is_dialed, before_links, on_links, Attempt, attempt_in, EndsWhole}
 use Rattle.plant_run.proofs.Linking.{before_more, on_more}
 use Rattle.plant_run.proofs.Entering.{Fits, Behind, IsNoWait, Waits, kept}
+
+-- Each wait of acts on a link, on which these frames were to be sent before, stands behind a frame that went out whole,
+-- which was the last that was to be sent.
+abbrev pub WaitsFollow : Job → (before : List Attempt) → List Act → Type 0
+WaitsFollow job before [] = Unit {0}
+WaitsFollow job before (act ∷ later) = (act.output ≡ output.Receive → EndsWhole before)
+    × WaitsFollow job (before ++ attempt_in job act.output act.came) later
 
 -- what a step and its output tell of the frames before it
 abbrev Tells : Step → Output → List Attempt → Type 0

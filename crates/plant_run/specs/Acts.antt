@@ -83,7 +83,8 @@ pub record IsCounted (act : Act) (sent : List ℕ) (receipt : Receipt) : Type 0 
 -- bytes sent before it, which are those and the frames that these acts had sent by then.
 abbrev pub AreCounted : Job → (sent : List ℕ) → List Act → List Receipt → Type 0
 AreCounted job sent [] receipts = receipts ≡ []
-AreCounted job sent (act ∷ later) receipts = (here : List Receipt) × (behind : List Receipt) × (receipts ≡ here ++ behind)
+AreCounted job sent (act ∷ later) receipts =
+    (here : List Receipt) × (behind : List Receipt) × (receipts ≡ here ++ behind)
     × AllByRecursion (IsCounted act sent) here
     × AreCounted job (sent ++ whole (attempt_in job act.output act.came)) later behind
 
@@ -93,9 +94,20 @@ pub record EndsWhole (before : List Attempt) : Type 0 where
   pub frame : Frame
   pub is : before ≡ earlier ++ Whole frame ∷ []
 
--- Each wait of acts on a link, on which these frames were to be sent before, stands behind a frame that went out whole,
--- which was the last that was to be sent.
-abbrev pub WaitsFollow : Job → (before : List Attempt) → List Act → Type 0
-WaitsFollow job before [] = Unit {0}
-WaitsFollow job before (act ∷ later) = (act.output ≡ output.Receive → EndsWhole before)
-    × WaitsFollow job (before ++ attempt_in job act.output act.came) later
+-- A receive of a wait on a link on which these bytes were sent in all, behind these frames that were to be sent: the
+-- last of them went out whole, and the bytes that were sent before the receive end with it.
+pub record IsAfterWhole (sent : List ℕ) (before : List Attempt) (act : Act) (receipt : Receipt) : Type 0 where
+  pub waits : act.output ≡ output.Receive
+  pub whole : EndsWhole before
+  pub bytes : List ℕ
+  pub behind : List ℕ
+  pub stands : sent ≡ bytes ++ (frame_spelling whole.frame ++ behind)
+  pub count : receipt.sent_before ≡ length (bytes ++ frame_spelling whole.frame)
+
+-- the receipts of acts on such a link, in order
+abbrev pub AreAfterWhole : Job → (sent : List ℕ) → (before : List Attempt) → List Act → List Receipt → Type 0
+AreAfterWhole job sent before [] receipts = receipts ≡ []
+AreAfterWhole job sent before (act ∷ later) receipts =
+    (here : List Receipt) × (behind : List Receipt) × (receipts ≡ here ++ behind)
+    × AllByRecursion (IsAfterWhole sent before act) here
+    × AreAfterWhole job sent (before ++ attempt_in job act.output act.came) later behind

@@ -22,7 +22,7 @@ use Rattle.worker_turn.specs.Sights.{IsSeen}
 use Rattle.worker_turn.specs.Turning.{pending}
 use Rattle.plant_run.specs.Own.{entries_of}
 use Rattle.plant_run.specs.Works.{IsFull, AreTold}
-use Rattle.plant_run.specs.Acts.{Act, acts, before_links, on_links, IsNoTransfer, attempts, HaveSent, AreCounted, WaitsFollow}
+use Rattle.plant_run.specs.Acts.{Act, acts, before_links, on_links, IsNoTransfer, attempts, HaveSent, AreCounted, AreAfterWhole}
 use Rattle.plant_run.specs.Requests.{RequestsAgree}
 
 -- what came of a wait for a frame
@@ -113,10 +113,24 @@ SeesWhatCame job run = (sofar later : List RunStep) (at inverter number raw : �
     → pending output.Nothing sofar ≡ output.Call (call.Saw at inverter number raw)
     → IsSeen job sofar at inverter number raw
 
+-- each receive of these links stands behind a whole frame
+abbrev pub EachAfterWhole : Job → List (List Act) → List Link → Type 0
+EachAfterWhole job [] [] = Unit {0}
+EachAfterWhole job (done ∷ others) (link ∷ links) =
+    AreAfterWhole job link.sent [] done link.receipts × EachAfterWhole job others links
+EachAfterWhole job _ _ = ⊥
+
+-- Where links are told, the bytes sent on each new link before each of its receives end with the whole frame of the
+-- run's last request that was to be sent before it.
+abbrev pub ReceivesFollow : Job → List RunStep → (links links_now : Option Links) → Type 0
+ReceivesFollow job run links links_now = (before after : Links) → links ≡ Some before → links_now ≡ Some after
+    → (made : List Link) → all_links after ≡ all_links before ++ made
+    → EachAfterWhole job (on_links (acts output.Nothing run)) made
+
 -- What a worker's run, from its first turn on, has to do with the book and with its dialer. Its calls with their replies
 -- are the book's entries of its inverter. Its dialer's new links agree with it, one by one. Its writes were sent in their
 -- windows, and each request was whole before its reply was waited for. What failed was counted. Each goal is that of the
--- book after some of its first entries, and each Saw has its frame. Each wait on a link stands behind a whole frame. Where
+-- book after some of its first entries, and each Saw has its frame. Each receive stands behind a whole frame. Where
 -- the book's replies are right, what was sent on each link are the requests that the ledger numbered there.
 pub record Agrees (job : Job) (book : BookRecord) (run : List RunStep) (old new : World) : Type 0 where
   pub calls : AreEntriesOf (calls_made output.Nothing run) (entries_of job.inverter book.entries)
@@ -126,5 +140,5 @@ pub record Agrees (job : Job) (book : BookRecord) (run : List RunStep) (old new 
   pub counted : min (old.faults + length (failures run)) (2 ^ 64 - 1) ≤ new.faults
   pub goals : AreTold book job.inverter output.Nothing run 0
   pub sights : SeesWhatCame job run
-  pub waits : AllByRecursion (WaitsFollow job []) (on_links (acts output.Nothing run))
+  pub receives : ReceivesFollow job run old.links new.links
   pub numbered : IsBook book → RequestsAgree (IsFull book) (entries_of job.inverter book.entries) run

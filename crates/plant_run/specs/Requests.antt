@@ -57,7 +57,8 @@ abbrev pub handled : List Act → List Asked
 handled done = flat_map (λ act. requests_out act.output) done
 
 -- The acts on the link of this number: it was entered once, as this link. Each request that the ledger numbered on it,
--- from 1 on, was sent or given back, once, in the order of their numbers; and no other was.
+-- from 1 on, was to be sent or was given back, once, in the order of their numbers; and no other was. The bytes sent on
+-- the link are the frames of those that were to be sent, as its agreement with these acts has it.
 pub record IsLinkOf (entries : List Entry) (number : ℕ) (done : List Act) : Type 0 where
   pub linked : links_in (entries_in done) ≡ number ∷ []
   pub numbers : AreNumbered 1 (requests_on number entries)
