@@ -1,5 +1,5 @@
 -- What a worker did from its first turn on agrees with the book and with its dialer.
-use Rattle.std.proofs.Common.{◌≡◌, ℕ, Bool, List, [], ◌∷◌, ◌++◌, length, Option, refl, sym, ap, subst, ◌∙◌}
+use Rattle.std.proofs.Common.{◌≡◌, ℕ, Bool, List, [], ◌++◌, length, Option, sym, ap, subst, ◌∙◌}
 use Rattle.world_traits.specs.Links.{Links}
 use Rattle.plant_book.specs.declared.book.Entry.{Entry}
 use Rattle.plant_book.specs.Book.{BookRecord}
@@ -20,6 +20,9 @@ use Rattle.plant_run.specs.Works.{IsGoalAfter, Works, AreTold}
 use Rattle.plant_run.specs.Running.{IsNew}
 use Rattle.plant_run.specs.Agreement.{LinksAgree, Agrees}
 use Rattle.plant_run.proofs.Linking as linking
+use Rattle.plant_run.proofs.Waiting.{waits_follow}
+use Rattle.plant_run.proofs.Receiving.{receives_follow}
+use Rattle.plant_run.proofs.Numbered.{requests_agree, are_full}
 
 pub agree : (may_give : ℕ → Bool) (opened book : BookRecord) (full : Type 0) (before after : WorkerRecord) (links links_now : Option Links) (faults faults_now : ℕ)
     (works : Works may_give before.job opened book full before after links links_now faults faults_now) → IsNew before → LinksAgree before.job works.run links links_now
@@ -52,4 +55,12 @@ agrees may_give opened book full before after links links_now faults faults_now 
       sights = λ sofar later at inverter number raw is saw.
           seen_anywhere before.job before.state after.state sofar later at inverter number raw ready
           (subst (λ (run : List RunStep). LeadsTo before.job before.state run after.state) is works.leads) saw;
+      receives = receives_follow before.job works.run links links_now
+          (agree may_give opened book full before after links links_now faults faults_now works new)
+          (waits_follow before.job before.state after.state works.run ready works.leads);
+      numbered = λ is.
+          requests_agree full before.job book works.run is.answered
+          (subst (λ (entries : List Entry). AreEntriesOf (calls_made output.Nothing works.run) entries) all gained.2)
+          before.state after.state ready works.leads works.rests
+          (are_full (IsGoalAfter book) full before.job.inverter output.Nothing works.run (length (entries_of before.job.inverter opened.entries)) works.told);
     }

@@ -13,7 +13,8 @@ use Rattle.inverter_worker.specs.declared.input.Input.TheVariants as input
 use Rattle.inverter_worker.specs.declared.output.Output.TheVariants as output
 use Rattle.inverter_worker.specs.declared.output.Asked.{Asked}
 use Rattle.worker_turn.specs.Doing.{request_frame}
-use Rattle.plant_run.specs.Agreement.{Act, IsNoTransfer, Attempt, CutShort, attempt_in, attempts, HaveSent, arrival_in, arrivals, frame_inputs, answers, piece_answers, EndsWith, AgreesWith}
+use Rattle.plant_run.specs.Acts.{Act, IsNoTransfer, Attempt, CutShort, attempt_in, attempts, HaveSent, whole, IsCounted, AreCounted}
+use Rattle.plant_run.specs.Agreement.{arrival_in, arrivals, frame_inputs, answers, piece_answers, EndsWith, AgreesWith}
 
 -- an act that sends nothing and receives nothing
 pub record Still (job : Job) (act : Act) : Type 0 where
@@ -59,6 +60,13 @@ pub record Goes (job : Job) (done : List Act) (unread : List ℕ) (link final : 
   pub rest : List ℕ
   pub bytes : unread ++ concat pieces ≡ frames_spelling frames ++ rest
   pub ends : EndsWith end silence rest
+  pub gained : List Receipt
+  pub receipts : final.receipts ≡ link.receipts ++ gained
+  pub counted : AreCounted job link.sent done gained
+
+none_counted : (job : Job) (sent : List ℕ) (done : List Act) → AreCounted job sent done []
+none_counted job sent [] = refl
+none_counted job sent (act ∷ done) = ([], [], refl, tt, none_counted job (sent ++ whole (attempt_in job act.output act.came)) done)
 
 pub agrees : (job : Job) (done : List Act) (final : Link) → Goes job done [] (new_link job.port.host job.port.port) final → AgreesWith job done final
 agrees job done final goes = record {
@@ -75,6 +83,7 @@ agrees job done final goes = record {
   unread = goes.rest;
   bytes = goes.bytes;
   ends = goes.ends;
+  counted = let P : List Receipt → Type 0 = λ t. AreCounted job [] done t in subst P (sym goes.receipts) goes.counted;
 }
 
 -- nothing is sent or received any more
@@ -95,6 +104,9 @@ goes_none job done unread link still = record {
   rest = unread;
   bytes = append-nil unread;
   ends = tt;
+  gained = [];
+  receipts = sym (append-nil link.receipts);
+  counted = none_counted job link.sent done;
 }
 
 pub goes_still : (job : Job) (act : Act) (done : List Act) (unread : List ℕ) (link final : Link) → Still job act → Goes job done unread link final
@@ -115,6 +127,16 @@ goes_still job act done unread link final still goes = record {
   rest = goes.rest;
   bytes = goes.bytes;
   ends = goes.ends;
+  gained = goes.gained;
+  receipts = goes.receipts;
+  counted = (
+    [],
+    goes.gained,
+    refl,
+    tt,
+    let P : List ℕ → Type 0 = λ t. AreCounted job t done goes.gained in
+        subst P (sym (ap (λ (t : List Attempt). link.sent ++ whole t) still.attempt ∙ append-nil link.sent)) goes.counted,
+  );
 }
 
 -- a request goes out whole
@@ -137,6 +159,9 @@ goes_sent job request clock done unread link final goes = record {
   rest = goes.rest;
   bytes = goes.bytes;
   ends = goes.ends;
+  gained = goes.gained;
+  receipts = goes.receipts;
+  counted = ([], goes.gained, refl, tt, goes.counted);
 }
 
 -- a send fails, and nothing is sent or received any more
@@ -162,6 +187,9 @@ goes_cut job request clock count done unread link less still = record {
   rest = unread;
   bytes = append-nil unread;
   ends = tt;
+  gained = [];
+  receipts = sym (append-nil link.receipts);
+  counted = none_counted job link.sent (record { output = output.Send request clock; came = input.SendFailed } ∷ done);
 }
 
 -- a link after receives that gave these pieces, and then this silence
@@ -170,6 +198,9 @@ pub record Gets (pieces : List (List ℕ)) (silence : List Answer) (link final :
   pub port : final.port ≡ link.port
   pub sent : final.sent ≡ link.sent
   pub receives : answers final ≡ answers link ++ (piece_answers pieces ++ silence)
+  pub gained : List Receipt
+  pub receipts : final.receipts ≡ link.receipts ++ gained
+  pub counted : AllByRecursion (λ (receipt : Receipt). receipt.sent_before ≡ length link.sent) gained
 
 answers_more : (answer : Answer) (link : Link) → answers (link_with_receipt answer link) ≡ answers link ++ answer ∷ []
 answers_more answer link =
@@ -180,7 +211,15 @@ link_with_pieces [] link = link
 link_with_pieces (piece ∷ pieces) link = link_with_pieces pieces (link_with_receipt (Bytes piece) link)
 
 pub gets_pieces : (pieces : List (List ℕ)) (link : Link) → Gets pieces [] link (link_with_pieces pieces link)
-gets_pieces [] link = record { host = refl; port = refl; sent = refl; receives = sym (append-nil (answers link)) }
+gets_pieces [] link = record {
+  host = refl;
+  port = refl;
+  sent = refl;
+  receives = sym (append-nil (answers link));
+  gained = [];
+  receipts = sym (append-nil link.receipts);
+  counted = tt;
+}
 gets_pieces (piece ∷ pieces) link =
     let later = gets_pieces pieces (link_with_receipt (Bytes piece) link) in
     record {
@@ -189,7 +228,19 @@ gets_pieces (piece ∷ pieces) link =
       sent = later.sent;
       receives = later.receives ∙ ap (λ (t : List Answer). t ++ (piece_answers pieces ++ [])) (answers_more (Bytes piece) link)
           ∙ append_assoc (answers link) (Bytes piece ∷ []) (piece_answers pieces ++ []);
+      gained = record { answer = Bytes piece; sent_before = length link.sent } ∷ later.gained;
+      receipts = later.receipts ∙ append_assoc link.receipts (record { answer = Bytes piece; sent_before = length link.sent } ∷ []) later.gained;
+      counted = (refl, later.counted);
     }
+
+all_push : (P : Receipt → Type 0) (receipts : List Receipt) (one : Receipt) → AllByRecursion P receipts → P one → AllByRecursion P (receipts ++ one ∷ [])
+all_push P [] one all last = (last, tt)
+all_push P (receipt ∷ receipts) one all last = (all.0, all_push P receipts one all.1 last)
+
+of_wait : (came : Input) (sent : List ℕ) (receipts : List Receipt) → AllByRecursion (λ (receipt : Receipt). receipt.sent_before ≡ length sent) receipts
+    → AllByRecursion (IsCounted (record { output = output.Receive; came = came }) sent) receipts
+of_wait came sent [] all = tt
+of_wait came sent (receipt ∷ receipts) all = (record { waits = refl; count = all.0 }, of_wait came sent receipts all.1)
 
 then_silence : (a p s : List Answer) → (a ++ (p ++ [])) ++ s ≡ a ++ (p ++ s)
 then_silence a p s = ap (λ (t : List Answer). (a ++ t) ++ s) (append-nil p) ∙ append_assoc a p s
@@ -203,6 +254,11 @@ gets_silence pieces answer link =
       sent = before.sent;
       receives = answers_more answer (link_with_pieces pieces link) ∙ ap (λ (t : List Answer). t ++ answer ∷ []) before.receives
           ∙ then_silence (answers link) (piece_answers pieces) (answer ∷ []);
+      gained = before.gained ++ record { answer = answer; sent_before = length (link_with_pieces pieces link).sent } ∷ [];
+      receipts = ap (λ (t : List Receipt). t ++ record { answer = answer; sent_before = length (link_with_pieces pieces link).sent } ∷ []) before.receipts
+          ∙ append_assoc link.receipts before.gained (record { answer = answer; sent_before = length (link_with_pieces pieces link).sent } ∷ []);
+      counted = all_push (λ (receipt : Receipt). receipt.sent_before ≡ length link.sent) before.gained
+          (record { answer = answer; sent_before = length (link_with_pieces pieces link).sent }) before.counted (ap (length {A = ℕ}) before.sent);
     }
 
 then_pieces : (a p q s : List Answer) → (a ++ (p ++ [])) ++ (q ++ s) ≡ a ++ ((p ++ q) ++ s)
@@ -237,6 +293,15 @@ goes_frame job frame pieces done unread between link final is first goes =
       bytes = ap (λ (t : List ℕ). unread ++ t) (concat-append pieces goes.pieces)
           ∙ then_bytes unread (concat pieces) (concat goes.pieces) (frame_spelling frame) (frames_spelling goes.frames) between goes.rest first goes.bytes;
       ends = goes.ends;
+      gained = gets.gained ++ goes.gained;
+      receipts = goes.receipts ∙ ap (λ (t : List Receipt). t ++ goes.gained) gets.receipts ∙ append_assoc link.receipts gets.gained goes.gained;
+      counted = (
+        gets.gained,
+        goes.gained,
+        refl,
+        of_wait (input.Frame frame) link.sent gets.gained gets.counted,
+        let P : List ℕ → Type 0 = λ t. AreCounted job t done goes.gained in subst P (gets.sent ∙ sym (append-nil link.sent)) goes.counted,
+      );
     }
 
 -- no frame comes, and nothing is sent or received any more
@@ -259,4 +324,7 @@ goes_end job came pieces silence done unread link final gets ends still = record
   rest = unread ++ concat pieces;
   bytes = refl;
   ends = ends;
+  gained = gets.gained;
+  receipts = gets.receipts;
+  counted = (gets.gained, [], sym (append-nil gets.gained), of_wait came link.sent gets.gained gets.counted, none_counted job (link.sent ++ []) done);
 }

@@ -96,7 +96,7 @@ told_still may_tell may_tell_now was_full was_full_now inverter put (one ∷ run
 )
 
 -- a worker that was over made no step more
-no_step : (job : Job) (state last : State) (run : List RunStep) (end : End) → state.step ≡ Over end → LeadsTo job state run last → run ≡ []
+pub no_step : (job : Job) (state last : State) (run : List RunStep) (end : End) → state.step ≡ Over end → LeadsTo job state run last → run ≡ []
 no_step job state last [] end over leads = refl
 no_step job state last (one ∷ run) end over leads = absurd (not_over job state leads.1.0 one.input one.output leads.1.1.0 end over)
 

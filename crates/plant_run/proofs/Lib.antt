@@ -10,4 +10,11 @@ pub mod Whole
 pub mod Standing
 pub mod Going
 pub mod Linking
+pub mod Numbering
+pub mod Filtering
+pub mod Entering
+pub mod Waiting
+pub mod Receiving
+pub mod Requesting
+pub mod Numbered
 pub mod Agreeing

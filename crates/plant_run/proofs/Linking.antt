@@ -17,7 +17,8 @@ use Rattle.inverter_worker.specs.declared.state.State.{State}
 use Rattle.inverter_worker.specs.Runs.{RunStep, LeadsTo, first_state}
 use Rattle.worker_turn.specs.Doing.{World, IsDone, AreDone, arrival, request_frame}
 use Rattle.worker_turn.proofs.Reading.{same_links}
-use Rattle.plant_run.specs.Agreement.{Act, acts, is_dialed, before_links, on_links, AgreesEach, LinksAgree}
+use Rattle.plant_run.specs.Acts.{Act, acts, is_dialed, before_links, on_links}
+use Rattle.plant_run.specs.Agreement.{AgreesEach, LinksAgree}
 use Rattle.plant_run.proofs.Standing.{up_after, Needs, HaveNeeds, from_first}
 use Rattle.plant_run.proofs.Going.{Still, AreStill, none_transfer, Goes, agrees, goes_none, goes_still, goes_sent, goes_cut, gets_pieces, gets_silence, link_with_pieces, goes_frame, goes_end}
 
@@ -65,10 +66,10 @@ record Moves (job : Job) (at : Place) (put : Output) (came : Input) (old new : W
   back : (later : List Act) (last : Option Links) → Comes job to later new.unread last
       → Comes job at (record { output = put; came = came } ∷ later) old.unread last
 
-before_more : (act : Act) (later : List Act) → is_dialed act.came ≡ false → before_links (act ∷ later) ≡ act ∷ before_links later
+pub before_more : (act : Act) (later : List Act) → is_dialed act.came ≡ false → before_links (act ∷ later) ≡ act ∷ before_links later
 before_more act later is = ap (λ (b : Bool). cond b [] (act ∷ before_links later)) is
 
-on_more : (act : Act) (later : List Act) → is_dialed act.came ≡ false → on_links (act ∷ later) ≡ on_links later
+pub on_more : (act : Act) (later : List Act) → is_dialed act.came ≡ false → on_links (act ∷ later) ≡ on_links later
 on_more act later is = ap (λ (b : Bool). cond b (before_links later ∷ on_links later) (on_links later)) is
 
 module _ (job : Job) (act : Act) (later : List Act) (last : Option Links) (is : is_dialed act.came ≡ false) where

@@ -10,7 +10,7 @@ use Rattle.inverter_worker.specs.declared.state.Step.{Step}
 use Rattle.inverter_worker.specs.declared.state.Step.TheVariants.{Ready, Aiming, Dialing, LinkTiming, Linking, Timing, Asking, Window, ReleaseTiming, Sending, WaitWrite, ReadTiming, ReadAsking, ReadWindow, SendingRead, WaitRead, SawTiming, SawAsking, Closing, UnfitClosing, Resting, Over}
 use Rattle.inverter_worker.specs.Table.{row}
 use Rattle.inverter_worker.specs.Runs.{RunStep, LeadsTo, first_state}
-use Rattle.plant_run.specs.Agreement.{Act, acts}
+use Rattle.plant_run.specs.Acts.{Act, acts}
 
 -- whether a link is up on which more may be sent or received, after an input
 abbrev pub up_after : Bool → Input → Bool

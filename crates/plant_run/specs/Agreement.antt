@@ -1,10 +1,10 @@
 -- What a whole run of a worker has to do with the links of its dialer, link by link, and with the book.
-use Rattle.std.specs.Prelude.{◌≡◌, ℕ, ◌+◌, ◌-◌, ◌^◌, ◌<◌, ◌≤◌, Bool, true, false, List, [], ◌∷◌, ◌++◌, Option, Some, length, map, min, take, if◌then◌else◌}
+use Rattle.std.specs.Prelude.{◌≡◌, ℕ, ◌+◌, ◌-◌, ◌^◌, ◌≤◌, List, [], ◌∷◌, ◌++◌, Option, Some, length, map, min}
 use Rattle.std.specs.List.{AllByRecursion, concat, flat_map}
 use Rattle.world_traits.specs.Links.{Answer, Bytes, Quiet, Closed, Failed, Link, Links, all_links}
 use Rattle.mbap_frames.specs.declared.frame.Frame.{Frame}
 use Rattle.mbap_frames.specs.declared.frame.FrameFault.{FrameFault}
-use Rattle.mbap_frames.specs.Frame.{IsFrame, frame_spelling}
+use Rattle.mbap_frames.specs.Frame.{IsFrame}
 use Rattle.mbap_frames.specs.Stream.{IsUnfinished, HasFault, frames_spelling}
 use Rattle.inverter_worker.specs.declared.job.Job.{Job}
 use Rattle.inverter_worker.specs.declared.input.Input.{Input}
@@ -13,70 +13,17 @@ use Rattle.inverter_worker.specs.declared.output.Output.{Output}
 use Rattle.inverter_worker.specs.declared.output.Output.TheVariants as output
 use Rattle.inverter_worker.specs.Runs.{RunStep, IsInTime, log}
 use Rattle.plant_book.specs.declared.call.Call.TheVariants as call
+use Rattle.plant_book.specs.Answered.{IsBook}
 use Rattle.plant_book.specs.Book.{BookRecord}
-use Rattle.worker_turn.specs.Doing.{World, AreDone, request_frame}
+use Rattle.worker_turn.specs.Doing.{World, AreDone}
 use Rattle.worker_turn.specs.Agreeing.{AreEntriesOf, calls_made, failures}
 use Rattle.worker_turn.specs.Requests.{IsRequested}
 use Rattle.worker_turn.specs.Sights.{IsSeen}
 use Rattle.worker_turn.specs.Turning.{pending}
 use Rattle.plant_run.specs.Own.{entries_of}
 use Rattle.plant_run.specs.Works.{IsGoalAfter, AreTold}
-
--- an output that was done, with the input that came of it
-pub record Act : Type 0 where
-  pub output : Output
-  pub came : Input
-
--- the acts of a run, in order: of its first output, and of its steps
-abbrev pub acts : Output → List RunStep → List Act
-acts output [] = []
-acts output (next ∷ later) = record { output = output; came = next.input } ∷ acts next.output later
-
--- whether an input says that a link was dialed
-abbrev pub is_dialed : Input → Bool
-is_dialed input.Dialed = true
-is_dialed came = false
-
--- the acts before the first dial that worked
-abbrev pub before_links : List Act → List Act
-before_links [] = []
-before_links (act ∷ later) = if is_dialed act.came then [] else act ∷ before_links later
-
--- the acts on each link, in order: those behind each dial that worked, up to the next that did
-abbrev pub on_links : List Act → List (List Act)
-on_links [] = []
-on_links (act ∷ later) = if is_dialed act.came then before_links later ∷ on_links later else on_links later
-
--- an output that has nothing to do with the bytes of a link
-abbrev pub IsNoTransfer : Output → Type 0
-IsNoTransfer (output.Send request clock) = ⊥
-IsNoTransfer output.Receive = ⊥
-IsNoTransfer output = Unit {0}
-
--- a frame that was to be sent: it went out whole, or its send failed
-pub data Attempt : Type 0 where
-  Whole : Frame → Attempt
-  CutShort : Frame → Attempt
-
--- the frame of a request that was to be sent
-abbrev pub attempt_in : Job → Output → Input → List Attempt
-attempt_in job (output.Send request clock) input.SentAll = Whole (request_frame job request) ∷ []
-attempt_in job (output.Send request clock) input.SendFailed = CutShort (request_frame job request) ∷ []
-attempt_in job output came = []
-
--- the frames of all requests that were to be sent, in order
-abbrev pub attempts : Job → List Act → List Attempt
-attempts job done = flat_map (λ act. attempt_in job act.output act.came) done
-
--- These bytes were sent: each frame, in order. Only the last may be cut short, down to nothing, where its
--- send failed.
-abbrev pub HaveSent : List Attempt → List ℕ → Type 0
-HaveSent [] bytes = bytes ≡ []
-HaveSent (Whole frame ∷ later) bytes =
-    (others : List ℕ) × (bytes ≡ frame_spelling frame ++ others) × HaveSent later others
-HaveSent (CutShort frame ∷ []) bytes =
-    (count : ℕ) × (count < length (frame_spelling frame)) × (bytes ≡ take count (frame_spelling frame))
-HaveSent (CutShort frame ∷ another ∷ later) bytes = ⊥
+use Rattle.plant_run.specs.Acts.{Act, acts, before_links, on_links, IsNoTransfer, attempts, HaveSent, AreCounted, AreAfterWhole}
+use Rattle.plant_run.specs.Requests.{RequestsAgree}
 
 -- what came of a wait for a frame
 abbrev pub arrival_in : Output → Input → List Input
@@ -113,7 +60,7 @@ EndsWith _ _ unread = ⊥
 -- A link agrees with the acts on it. It was dialed where the job says, and the bytes sent on it are the
 -- frames of the requests. The waits gave frames, and then such an end; the receives answered pieces of bytes,
 -- and then the same end. The bytes of the pieces are those of the frames, in order, and then those never
--- handed out.
+-- handed out. Each receive counts the bytes that its acts had sent before it.
 pub record AgreesWith (job : Job) (done : List Act) (link : Link) : Type 0 where
   pub host : link.host ≡ job.port.host
   pub port : link.port ≡ job.port.port
@@ -128,6 +75,7 @@ pub record AgreesWith (job : Job) (done : List Act) (link : Link) : Type 0 where
   pub unread : List ℕ
   pub bytes : concat pieces ≡ frames_spelling frames ++ unread
   pub ends : EndsWith end silence unread
+  pub counted : AreCounted job [] done link.receipts
 
 -- each link agrees with the acts on it, and there are as many links as parts of the acts
 abbrev pub AgreesEach : Job → List (List Act) → List Link → Type 0
@@ -165,10 +113,26 @@ SeesWhatCame job run = (sofar later : List RunStep) (at inverter number raw : �
     → pending output.Nothing sofar ≡ output.Call (call.Saw at inverter number raw)
     → IsSeen job sofar at inverter number raw
 
+-- each receive of these links stands behind a whole frame
+abbrev pub EachAfterWhole : Job → List (List Act) → List Link → Type 0
+EachAfterWhole job [] [] = Unit {0}
+EachAfterWhole job (done ∷ others) (link ∷ links) =
+    AreAfterWhole job link.sent [] done link.receipts × EachAfterWhole job others links
+EachAfterWhole job _ _ = ⊥
+
+-- Where links are told, the bytes sent on each new link before each of its receives end with the whole frame of the
+-- run's last request that was to be sent before it.
+abbrev pub ReceivesFollow : Job → List RunStep → (links links_now : Option Links) → Type 0
+ReceivesFollow job run links links_now = (before after : Links) → links ≡ Some before → links_now ≡ Some after
+    → (made : List Link) → all_links after ≡ all_links before ++ made
+    → EachAfterWhole job (on_links (acts output.Nothing run)) made
+
 -- What a worker's run, from its first turn on, has to do with the book and with its dialer. Its calls with their replies
 -- are the book's entries of its inverter. Its dialer's new links agree with it, one by one. Its writes were sent in their
 -- windows, and each request was whole before its reply was waited for. What failed was counted. Each goal is that of the
--- book after some of its first entries, and where one came to a full book one was full. Each Saw has its frame.
+-- book after some of its first entries, and where one came to a full book one was full. Each Saw has its frame. Each
+-- receive stands behind a whole frame. Where the book's replies are right, what was sent on each link are the requests
+-- that the ledger numbered there.
 pub record Agrees (job : Job) (book : BookRecord) (full : Type 0) (run : List RunStep) (old new : World) : Type 0 where
   pub calls : AreEntriesOf (calls_made output.Nothing run) (entries_of job.inverter book.entries)
   pub links : LinksAgree job run old.links new.links
@@ -177,3 +141,5 @@ pub record Agrees (job : Job) (book : BookRecord) (full : Type 0) (run : List Ru
   pub counted : min (old.faults + length (failures run)) (2 ^ 64 - 1) ≤ new.faults
   pub goals : AreTold (IsGoalAfter book) full job.inverter output.Nothing run 0
   pub sights : SeesWhatCame job run
+  pub receives : ReceivesFollow job run old.links new.links
+  pub numbered : IsBook book → RequestsAgree full (entries_of job.inverter book.entries) run
