@@ -190,7 +190,8 @@ impl<'c, K: Clock> DeviceDialer<'c, K> {
         self.schedule.next_fails()
     }
 
-    /// Counts a call on a link. Answers whether its number is one of those that fail or no link is up, which is a fault.
+    /// Counts a call on a link. Answers whether its number is one of those that fail, or no link is up; either is a
+    /// fault.
     fn fails_on_link(&mut self) -> bool
         ensures fails { IsTrue result ↔ FailsOnLink self.old }
         ensures failed { OnTrue result (self.new ≡ after_bad_call self.old) }
