@@ -1,15 +1,14 @@
 -- What an inverter hears, as a server's progress on a stream whose answers gather in one place.
-use Rattle.std.proofs.Common.{◌≡◌, ℕ, ◌-◌, ◌⊎◌, Bool, IsTrue, List, [], ◌∷◌, ◌++◌, length, take, drop, Option, Some, None, refl, sym, ap, subst}
+use Rattle.std.proofs.Common.{◌≡◌, ℕ, ◌-◌, Bool, IsTrue, List, [], ◌∷◌, ◌++◌, length, take, drop, Option, Some, None, refl, sym, ap, subst}
 use Rattle.world_traits.specs.Links.{Link, Links}
 use Rattle.mbap_frames.specs.declared.frame.Frame.{Frame}
-use Rattle.mbap_frames.specs.declared.frame.FrameFault.{FrameFault}
 use Rattle.mbap_frames.specs.declared.frames.Got.TheVariants.{One}
 use Rattle.mbap_frames.specs.declared.frames.Fed.{Fed}
-use Rattle.mbap_frames.specs.Frame.{Begins, frame_spelling}
-use Rattle.mbap_frames.specs.Stream.{IsUnfinished, HasFault}
+use Rattle.mbap_frames.specs.Frame.{frame_spelling}
+use Rattle.mbap_frames.specs.Stream.{IsUnfinished}
 use Rattle.mbap_frames.specs.Feed.{IsFed}
 use Rattle.inverter_sim.specs.Bank.{BankRecord}
-use Rattle.inverter_server.specs.Answers.{Answered, IsAnsweredBy, IsHungUpOn, answer_bytes}
+use Rattle.inverter_server.specs.Answers.{Answered, IsAnsweredBy, answer_bytes}
 use Rattle.inverter_server.specs.Turns.{State, IsProgress}
 use Rattle.inverter_server.proofs.Pieces.{answered_so, behind_used, fed_one, one_more}
 use Rattle.device_dialers.specs.Device.{AreAtReadings, AreHeard, HangsUp, Hears, IsRead}

@@ -132,11 +132,7 @@ impl<'c, K: Clock> Dialer for DeviceDialer<'c, K> {
         ensures err { OnErr result (IsRefusedOrStarved (FailsOnLink self.old)
             (after_bad_call self.old) (short_of_memory (after_bad_call self.old)) self.new) }
     {
-        if self.next_fails() {
-            return Err(SendFailed);
-        }
-        if !self.log.is_up() {
-            self.schedule.fault();
+        if self.fails_on_link() {
             return Err(SendFailed);
         }
         match self.deliver(bytes) {
@@ -160,12 +156,7 @@ impl<'c, K: Clock> Dialer for DeviceDialer<'c, K> {
         ensures err { OnErr result (IsRefusedOrStarved (FailsOnLink self.old)
             (after_bad_receive self.old) (short_of_memory (after_bad_receive self.old)) self.new) }
     {
-        if self.next_fails() {
-            self.lose_link();
-            return Err(RecvFailed);
-        }
-        if !self.log.is_up() {
-            self.schedule.fault();
+        if self.fails_on_link() {
             self.lose_link();
             return Err(RecvFailed);
         }
@@ -197,6 +188,24 @@ impl<'c, K: Clock> DeviceDialer<'c, K> {
         ensures later { self.old.schedule.faults ≤ self.new.schedule.faults }
     {
         self.schedule.next_fails()
+    }
+
+    /// Counts a call on a link. Answers whether its number is one of those that fail, or no link is up; either is a
+    /// fault.
+    fn fails_on_link(&mut self) -> bool
+        ensures fails { IsTrue result ↔ FailsOnLink self.old }
+        ensures failed { OnTrue result (self.new ≡ after_bad_call self.old) }
+        ensures works { OnFalse result (self.new ≡ after_count self.old) }
+        ensures later { self.old.schedule.faults ≤ self.new.schedule.faults }
+    {
+        if self.next_fails() {
+            return true;
+        }
+        if self.log.is_up() {
+            return false;
+        }
+        self.schedule.fault();
+        true
     }
 
     /// Hands a piece to the inverter. Where memory runs out, nothing is done.

@@ -5,4 +5,4 @@ use Rattle.device_dialers.proofs.device_dialer.DeviceDialerDialer.send.Goals as 
 pub returns-in-Ok-clause-ok : goal.returns-in-Ok-clause-ok
 returns-in-Ok-clause-ok g c =
     let P : DeviceDialerState _ → Type 0 = λ state. IsDelivered (g.K.Clock.may_give state.clock) c.args.bytes.now state c.deliver.new.self in
-    subst P c.if-next_fails.ensures.works c.in-Ok.ensures.ok
+    subst P c.if-fails_on_link.ensures.works c.in-Ok.ensures.ok
