@@ -1,7 +1,7 @@
 //! Two threads with a pass each at one desk.
-ghost use Rattle.std.specs.Prelude.{◌≡◌, ◌<◌, length};
+ghost use Rattle.std.specs.Prelude.{◌≡◌, ◌<◌, ◌≤◌, All, IfOk, length};
 
-use super::{desk, hand_in, taken};
+use super::{closed, desk, hand_in, taken};
 use crate::{Pass, PlantDesk};
 use plant_book::{Call, Entry, Reply};
 use plant_ledger::{BookFull, Plant};
@@ -53,6 +53,15 @@ impl Tally {
         Tally {
             ended: self.ended.saturating_add(ticks),
             ..self
+        }
+    }
+
+    fn and(self, other: Tally) -> Tally {
+        Tally {
+            entered: self.entered.saturating_add(other.entered),
+            refused: self.refused.saturating_add(other.refused),
+            room: self.room.max(other.room),
+            ended: self.ended.saturating_add(other.ended),
         }
     }
 }
@@ -140,21 +149,46 @@ fn both<R: Threads + Wait + Sync>(
     )
 }
 
-/// The same from opening a plant to closing its desk.
+/// Two passes of a desk make their calls, and are handed in again.
+fn made<R: Threads + Wait + Sync>(
+    rt: &R,
+    alloc: Global,
+    desk: &PlantDesk,
+    mut passes: Vec<Pass>,
+    every: u32,
+) -> Result<(Vec<Pass>, Tally), Fail>
+    requires { All (λ pass. pass.desk ≡ desk.now) passes.items }
+    ensures { IfOk result (λ made. All (λ pass. pass.desk ≡ desk.now) made.0.items) }
+{
+    let one = taken(desk, &mut passes)?;
+    let other = taken(desk, &mut passes)?;
+    let ((one, first), (other, second)) = both(rt, alloc, desk, one, other, every);
+    hand_in(desk, &mut passes, one)?;
+    hand_in(desk, &mut passes, other)?;
+    Ok((passes, first.and(second)))
+}
+
+/// What two threads saw of a desk over books of this room: the calls that were entered, those that were refused, the
+/// calls of the book that refused (0: none), and the entries of all books. Each entry is `TICK`.
 fn shared<R: Threads + Wait + Abort + Sync>(
     rt: &R,
     alloc: Global,
     room: u32,
     every: u32,
-) -> Result<(Plant, Tally, Tally), Fail> {
-    let (desk, mut passes) = desk(rt, alloc, room, 2)?;
-    let one = taken(&desk, &mut passes)?;
-    let other = taken(&desk, &mut passes)?;
-    let ((one, first), (other, second)) = both(rt, alloc, &desk, one, other, every);
-    hand_in(&desk, &mut passes, one)?;
-    hand_in(&desk, &mut passes, other)?;
-    let plant = desk.close(passes).ok().ok_or("closed")?;
-    Ok((plant, first, second))
+) -> Result<(u32, u32, u32, u32), Fail>
+    requires { (1 ≤ room) × (room ≤ 1048576) }
+{
+    let (desk, passes) = desk(alloc, room, 2)?;
+    let (passes, tally) = made(rt, alloc, &desk, passes, every)?;
+    let plant = closed(desk, passes)?;
+    let last = last_ticks(&plant);
+    assert_eq!(rt; plant.calls(), last);
+    Ok((
+        tally.entered,
+        tally.refused,
+        tally.room,
+        tally.ended.saturating_add(last),
+    ))
 }
 
 /// Takes what may be shared by threads and go to one, and what may go to one.
@@ -166,33 +200,12 @@ fn desk_and_pass_cross(desk: &PlantDesk, pass: &Pass) {
 }
 
 #[test]
-fn two_threads_enter_each_call_once(rt: HostRuntime) -> Result<(), Fail> {
-    let (plant, one, other) = shared(&rt, rt.alloc(), 3_000, 0)?;
-    assert_eq!(rt; (one.entered, other.entered), (1_000, 1_000));
-    assert_eq!(rt; (plant.calls(), last_ticks(&plant)), (2_000, 2_000));
-    Ok(())
-}
-
-#[test]
-fn two_threads_fill_a_book(rt: HostRuntime) -> Result<(), Fail> {
-    let (plant, one, other) = shared(&rt, rt.alloc(), 1_999, 0)?;
-    assert_eq!(rt;
-        (
-            one.refused.max(other.refused),
-            one.refused.min(other.refused)
-        ),
-        (1, 0)
-    );
-    assert_eq!(rt; one.room.max(other.room), 1_999);
-    assert_eq!(rt; (plant.calls(), last_ticks(&plant)), (1_999, 1_999));
-    Ok(())
-}
-
-#[test]
-fn two_threads_roll_books_over(rt: HostRuntime) -> Result<(), Fail> {
-    let (plant, one, other) = shared(&rt, rt.alloc(), 3_000, 300)?;
-    assert_eq!(rt; (one.entered, other.entered), (1_000, 1_000));
-    let ended = one.ended.saturating_add(other.ended);
-    assert_eq!(rt; ended.saturating_add(last_ticks(&plant)), 2_000);
+fn two_threads_make_one_book(rt: HostRuntime) -> Result<(), Fail> {
+    let with_room = shared(&rt, rt.alloc(), 3_000, 0)?;
+    assert_eq!(rt; with_room, (2_000, 0, 0, 2_000));
+    let filled = shared(&rt, rt.alloc(), 1_999, 0)?;
+    assert_eq!(rt; filled, (1_999, 1, 1_999, 1_999));
+    let rolled = shared(&rt, rt.alloc(), 3_000, 300)?;
+    assert_eq!(rt; rolled, (2_000, 0, 0, 2_000));
     Ok(())
 }

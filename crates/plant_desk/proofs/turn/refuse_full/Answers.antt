@@ -1,4 +1,4 @@
-use Rattle.std.proofs.Common.{None, length, arith, ap, sym, ◌∙◌}
+use Rattle.std.proofs.Common.{None, length, arith, ap, ◌∙◌}
 use Rattle.plant_book.specs.Part.{PartRecord}
 use Rattle.plant_desk.proofs.turn.refuse_full.Goals as goal
 
@@ -19,4 +19,4 @@ returns-clause-given c = λ one is. c.give_back.ensures.given one (c.calls_now-c
 pub returns-clause-calls : goal.returns-clause-calls
 returns-clause-calls c =
     let holds = c.requires.holds in
-    c.calls_now-calls.ensures.calls holds.0 None holds.1 ∙ sym (ap (λ (book : PartRecord). length book.entries) holds.2)
+    omega (arith, c.calls_now-calls.ensures.calls holds.0 None holds.1, ap (λ (book : PartRecord). length book.entries) holds.2)
