@@ -1,5 +1,5 @@
 -- What a worker did on the desk of a whole life, as of the life's book.
-use Rattle.std.proofs.Common.{◌≡◌, ℕ, zero, suc, ◌+◌, ◌≤◌, Bool, List, [], ◌∷◌, ◌++◌, length, take, Option, Some, refl, sym, ap, subst, ◌∙◌, arith, append-nil, length-append, append_assoc}
+use Rattle.std.proofs.Common.{◌≡◌, ℕ, zero, suc, ◌+◌, ◌≤◌, Bool, true, List, [], ◌∷◌, ◌++◌, length, take, Option, Some, refl, sym, ap, subst, ◌∙◌, arith, append-nil, length-append, append_assoc}
 use Rattle.std.specs.Prelude.{slice_get}
 use Rattle.std.specs.List.{AllByRecursion}
 use Rattle.std.proofs.lemmas.List.{take-append-le, take_all}
@@ -7,7 +7,6 @@ use Rattle.std.proofs.lemmas.List.Elements.{filter-append}
 use Rattle.std.proofs.lemmas.Option.{none-some, get_or_from_slice_get}
 use Rattle.world_traits.specs.Links.{Links}
 use Rattle.plant_book.specs.declared.book.Entry.{Entry}
-use Rattle.plant_ledger.specs.declared.plant.Goal.{Goal}
 use Rattle.ledger_desk.specs.Plain.{PlainRecord, LifeRecord, joined, front, state_of, life_of, MayTell, WasFull}
 use Rattle.inverter_worker.specs.declared.job.Job.{Job}
 use Rattle.inverter_worker.specs.declared.input.Input.{Input}
@@ -18,13 +17,13 @@ use Rattle.inverter_worker.specs.Runs.{RunStep}
 use Rattle.inverter_worker.specs.Turns.{readings}
 use Rattle.worker_turn.specs.Doing.{World, AreDone, world_of}
 use Rattle.worker_turn.specs.Worker.{WorkerRecord}
-use Rattle.worker_turn.specs.Agreeing.{AreEntriesOf, calls_made, made_by}
+use Rattle.worker_turn.specs.Agreeing.{calls_made, made_by}
 use Rattle.worker_turn.proofs.Agreeing.{Gains, gains, entered}
 use Rattle.plant_run.specs.Own.{is_workers, entries_of}
 use Rattle.plant_run.specs.Works.{IsGoalAfter, IsFull, IsToldAt, AreTold, WorksOn, Works}
 use Rattle.plant_run.specs.Rounds.{IsWhole, Grows, book_of}
 use Rattle.plant_run.proofs.Steps.{done_between}
-use Rattle.plant_run.proofs.Seeing.{Adds, IsOwn, all_map, all_split, all_own, entries_own, own_adds, viewed, viewed_all}
+use Rattle.plant_run.proofs.Seeing.{Adds, IsOwn, all_map, all_split, all_own, entries_own, own_adds, viewed_all}
 use Rattle.plant_run.proofs.Joining.{entries_length}
 
 -- of a life that was not rolled there is one book that may be full

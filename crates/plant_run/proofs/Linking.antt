@@ -296,20 +296,20 @@ receives job (On past link) came old new needs done told =
 moves : (job : Job) (at : Place) (put : Output) (came : Input) (old new : World) → Needs put (is_up at) → IsDone job put came old new
     → old.links ≡ Some (links_at at) → Moves job at put came old new
 moves job at output.Goal (input.Goal goal) old new needs done told = stays job at output.Goal (input.Goal goal) old new
-    (record { attempt = refl; arrival = refl; apart = tt }) refl (λ up. refl) (same_links _ new done.1) (same_unread _ new done.1) told
+    (record { attempt = refl; arrival = refl; apart = tt }) refl (λ up. refl) (same_links _ new done) (same_unread _ new done) told
 moves job at output.Dial input.Dialed old new needs done told = dials job at old new done told
 moves job at output.Dial input.DialFailed old new needs done told = stays job at output.Dial input.DialFailed old new
     (record { attempt = refl; arrival = refl; apart = tt }) refl (λ up. refl) (same_links _ new done.0) (same_unread _ new done.0) told
 moves job at output.Now (input.Time clock) old new needs done told = stays job at output.Now (input.Time clock) old new
     (record { attempt = refl; arrival = refl; apart = tt }) refl (λ up. refl) (same_links _ new done.0) (same_unread _ new done.0) told
 moves job at (output.Call called) (input.Reply answer) old new needs done told = stays job at (output.Call called) (input.Reply answer) old new
-    (record { attempt = refl; arrival = refl; apart = tt }) refl (λ up. refl) (same_links _ new done.1) (same_unread _ new done.1) told
+    (record { attempt = refl; arrival = refl; apart = tt }) refl (λ up. refl) (same_links _ new done.is) (same_unread _ new done.is) told
 moves job at (output.Call called) input.Full old new needs done told = stays job at (output.Call called) input.Full old new
-    (record { attempt = refl; arrival = refl; apart = tt }) refl (λ up. refl) (same_links _ new done.1) (same_unread _ new done.1) told
+    (record { attempt = refl; arrival = refl; apart = tt }) refl (λ up. refl) (same_links _ new done) (same_unread _ new done) told
 moves job at (output.Release write moment) (input.Reply answer) old new needs done told = stays job at (output.Release write moment) (input.Reply answer) old new
-    (record { attempt = refl; arrival = refl; apart = tt }) refl (λ up. refl) (same_links _ new done.1) (same_unread _ new done.1) told
+    (record { attempt = refl; arrival = refl; apart = tt }) refl (λ up. refl) (same_links _ new done.is) (same_unread _ new done.is) told
 moves job at (output.Release write moment) input.Full old new needs done told = stays job at (output.Release write moment) input.Full old new
-    (record { attempt = refl; arrival = refl; apart = tt }) refl (λ up. refl) (same_links _ new done.1) (same_unread _ new done.1) told
+    (record { attempt = refl; arrival = refl; apart = tt }) refl (λ up. refl) (same_links _ new done) (same_unread _ new done) told
 moves job at (output.Send request clock) came old new needs done told = sends job at request clock came old new needs done told
 moves job at output.Receive came old new needs done told = receives job at came old new needs done told
 moves job at output.HangUp input.HungUp old new needs done told = hangs_up job at old new done told

@@ -19,7 +19,7 @@ use Rattle.inverter_worker.specs.declared.state.Step.{Step}
 use Rattle.inverter_worker.specs.Runs.{RunStep}
 use Rattle.worker_turn.specs.Doing.{World, IsEntered, IsDone, AreDone}
 use Rattle.worker_turn.specs.Acts.{IsOwnCall, Stands, held}
-use Rattle.worker_turn.specs.Agreeing.{IsEntryOf, AreEntriesOf, made_by, calls_made}
+use Rattle.worker_turn.specs.Agreeing.{AreEntriesOf, made_by, calls_made}
 use Rattle.worker_turn.proofs.Rows.{doable}
 use Rattle.plant_run.specs.Own.{is_workers, entries_of}
 

@@ -1,5 +1,5 @@
 -- One turn of a worker, through any desk.
-use Rattle.std.proofs.Common.{◌≡◌, ℕ, ◌+◌, ◌≤◌, Bool, true, false, cond, eqb, List, [], ◌∷◌, ◌++◌, length, ◌⊎◌, inl, inr, Option, Some, None, refl, sym, ap, subst, ◌∙◌, arith, append-nil}
+use Rattle.std.proofs.Common.{◌≡◌, ℕ, ◌+◌, Bool, true, false, cond, eqb, List, [], ◌∷◌, ◌++◌, length, ◌⊎◌, inl, inr, Option, Some, None, refl, sym, ap, subst, arith, append-nil}
 use Rattle.std.specs.List.{AllByRecursion}
 use Rattle.world_traits.specs.Clocks.{AreGiven}
 use Rattle.world_traits.specs.Links.{Links}
@@ -24,7 +24,7 @@ use Rattle.worker_turn.specs.declared.worker.Turned.TheVariants as turned
 use Rattle.worker_turn.specs.Worker.{WorkerRecord, Answers, IsBegin, IsBetweenTurns, IsTurn}
 use Rattle.worker_turn.specs.Acts.{Stands}
 use Rattle.worker_turn.specs.Turning.{pending}
-use Rattle.worker_turn.specs.Agreeing.{calls_made, made_by}
+use Rattle.worker_turn.specs.Agreeing.{made_by}
 use Rattle.plant_run.specs.Works.{IsToldAt, AreTold, IsAtRest, WorksOn}
 use Rattle.plant_run.proofs.Steps.{done_between, idle}
 use Rattle.plant_run.proofs.Seeing.{viewed, shifted}

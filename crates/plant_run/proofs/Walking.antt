@@ -1,5 +1,5 @@
 -- The way through a turn.
-use Rattle.std.proofs.Common.{◌≡◌, ◌≢◌, ℕ, ◌+◌, false, List, [], ◌∷◌, ◌++◌, length, refl, ap, subst}
+use Rattle.std.proofs.Common.{◌≡◌, ◌≢◌, ℕ, ◌+◌, false, List, [], ◌∷◌, length, refl, subst}
 use Rattle.std.specs.List.{AllByRecursion}
 use Rattle.ledger_desk.specs.Desk.{GoalTest}
 use Rattle.inverter_worker.specs.declared.job.Job.{Job}

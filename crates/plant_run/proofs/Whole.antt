@@ -14,7 +14,10 @@ use Rattle.plant_ledger.specs.Plant.{IsSafeLife}
 use Rattle.plant_book.proofs.Safe.{safe_life}
 use Rattle.ledger_desk.specs.Plain.{PlainRecord, IsKeptDesk}
 use Rattle.worker_turn.specs.Worker.{WorkerRecord, IsBetweenTurns}
-use Rattle.plant_run.specs.Running.{IsNew, IsOfSite, IsOfOne}
+use Rattle.plant_run.specs.Running.{IsNew, IsOfSite, IsOfOne, EachWorks}
+use Rattle.inverter_worker.specs.declared.output.Output.TheVariants as output
+use Rattle.plant_run.specs.Works.{IsGoalAfter, IsFull, HasFullBook, one_book}
+use Rattle.plant_run.proofs.Joining.{told_still}
 use Rattle.plant_run.specs.Rounds.{IsWhole, IsSeat, WorkOn, book_of}
 
 nothing_in : {X : Type 0} (xs : List X) → 0 ≡ length xs → xs ≡ []
@@ -69,3 +72,22 @@ module _ {N : Type 0} (links : N → Option Links) (faults : N → ℕ) (may_giv
       let R : List WorkerRecord → Type 0 = λ x. WorkOn links faults may_give a b x now dialers dialers_now in
       let S : List N → Type 0 = λ x. WorkOn links faults may_give a b lent_workers now x dialers_now in
       subst P first (subst Q last (subst R its (subst S theirs work)))
+
+  -- a full book of a life in one book is its book
+  pub in_life : (opened : BookRecord) (plant : PartRecord) (workers workers_now : List WorkerRecord) (dialers dialers_now : List N)
+      → EachWorks links faults may_give opened (first_book plant) (IsFull (first_book plant)) workers workers_now dialers dialers_now
+      → EachWorks links faults may_give opened (first_book plant) (HasFullBook (one_book plant)) workers workers_now dialers dialers_now
+  in_life opened plant workers workers_now dialers dialers_now each = λ place before after old new was now had has.
+      let it = each place before after old new was now had has in
+      record {
+        run = it.run;
+        job_same = it.job_same;
+        leads = it.leads;
+        log = it.log;
+        done = it.done;
+        own = it.own;
+        clock = it.clock;
+        told = told_still (IsGoalAfter (first_book plant)) (IsGoalAfter (first_book plant)) (IsFull (first_book plant)) (HasFullBook (one_book plant))
+            before.job.inverter output.Nothing it.run _ (λ made place inverter goal told. told) (λ full. (plant, (0, omega arith, refl), full)) it.told;
+        rests = it.rests;
+      }

@@ -1,10 +1,12 @@
 -- What one worker did, over any number of turns.
 use Rattle.std.specs.List.{AllByRecursion}
-use Rattle.std.specs.Prelude.{◌≡◌, ℕ, Bool, true, ◌+◌, ◌≤◌, List, [], ◌∷◌, ◌++◌, length, take, Option}
+use Rattle.std.specs.Prelude.{◌≡◌, ℕ, Bool, true, ◌+◌, ◌≤◌, List, [], ◌∷◌, ◌++◌, length, take, Option, Contains}
 use Rattle.world_traits.specs.Links.{Links}
 use Rattle.world_traits.specs.Clocks.{AreGiven}
 use Rattle.plant_book.specs.declared.book.Entry.{Entry}
 use Rattle.plant_book.specs.Book.{BookRecord}
+use Rattle.plant_book.specs.Part.{PartRecord}
+use Rattle.plant_book.specs.Life.{Life}
 use Rattle.plant_ledger.specs.declared.plant.Goal.{Goal}
 use Rattle.ledger_desk.specs.Desk.{GoalTest}
 use Rattle.ledger_desk.specs.Plain.{IsGoalOf}
@@ -48,6 +50,15 @@ abbrev pub AreTold : GoalTest → (was_full : Type 0) → (inverter : ℕ) → O
 AreTold may_tell was_full inverter output [] made = Unit {0}
 AreTold may_tell was_full inverter output (next ∷ later) made = IsToldAt may_tell was_full inverter made next.input
     × AreTold may_tell was_full inverter next.output later (made + length (made_by output next.input))
+
+-- a book of the life has its room of calls
+abbrev pub HasFullBook : Life → Type 0
+HasFullBook life =
+    (part : PartRecord) × Contains (life.ended ++ life.last ∷ []) part × (part.site.room ≤ length part.entries)
+
+-- a life in one book
+abbrev pub one_book : PartRecord → Life
+one_book part = record { ended = []; last = part }
 
 -- between two turns nothing is left to be done
 abbrev pub IsAtRest : Step → Output → Type 0

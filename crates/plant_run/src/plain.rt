@@ -8,7 +8,7 @@ ghost use Rattle.plant_ledger.specs.Plant.{IsSafeLife};
 ghost use Rattle.ledger_desk.specs.Plain.{life_of};
 ghost use Rattle.worker_turn.specs.Worker.{IsBetweenTurns};
 ghost use Rattle.plant_run.specs.Own.{is_workers};
-ghost use Rattle.plant_run.specs.Works.{IsFull, Works};
+ghost use Rattle.plant_run.specs.Works.{HasFullBook, IsFull, Works, one_book};
 ghost use Rattle.plant_run.specs.Running.{EachWorker, EachWorks, IsNew, IsOfSite, IsOver, IsOfOne, Differ, StayBehind};
 ghost use Rattle.plant_run.specs.Rounds.{IsWhole, IsSeat, Grows, WorkOn, book_of, turns_left, all_left};
 
@@ -44,7 +44,7 @@ pub fn run_plain<N: Dialer, K: Clock>(
     // Each entry is a worker's. What each worker did, to its end, agrees with its entries and its dialer.
     ensures owned { AllByRecursion (IsOfOne workers.old.items) result.entries }
     ensures works { EachWorks N.links N.faults (K.may_give clock.now) (first_book plant) (first_book result)
-        (IsFull (first_book result)) workers.old.items workers.new.items dialers.old.items dialers.new.items }
+        (HasFullBook (one_book result)) workers.old.items workers.new.items dialers.old.items dialers.new.items }
     ensures over { EachWorker IsOver workers.new.items }
 
     ensures workers_stay { vec_len workers.new ≡ vec_len workers.old }

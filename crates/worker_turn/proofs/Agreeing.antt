@@ -33,7 +33,7 @@ gains_one : (called : Call) (answer : Reply) (old new : World) → IsEntered cal
 gains_one called answer old new enters =
     (_, same_made _ new enters.is, (record { at = enters.at; later = enters.later; is = refl }, tt))
 
-gains : (job : Job) (output : Output) (came : Input) (old new : World) → IsDone job output came old new → Gains (made_by output came) old new
+pub gains : (job : Job) (output : Output) (came : Input) (old new : World) → IsDone job output came old new → Gains (made_by output came) old new
 gains job output.Goal (input.Goal goal) old new done = gains_none old new (same_made old new done)
 gains job output.Dial input.Dialed old new done = gains_none old new (same_made _ new done)
 gains job output.Dial input.DialFailed old new done = gains_none old new (same_made _ new done.0)

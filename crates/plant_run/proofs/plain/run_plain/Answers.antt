@@ -7,7 +7,8 @@ use Rattle.worker_turn.specs.Worker.{WorkerRecord}
 use Rattle.plant_run.specs.Running.{EachWorker, EachWorks, IsOver, Differ, StayBehind}
 use Rattle.plant_ledger.specs.Plant.{IsSafeLife}
 use Rattle.plant_run.specs.Rounds.{IsSeat, WorkOn, book_of}
-use Rattle.plant_run.proofs.Whole.{book_is, answered, safe, lent, seat, owned, work_is}
+use Rattle.plant_run.specs.Works.{HasFullBook, one_book}
+use Rattle.plant_run.proofs.Whole.{book_is, answered, safe, lent, seat, owned, work_is, in_life}
 use Rattle.plant_run.proofs.plain.run_plain.Given as given
 use Rattle.plant_run.proofs.plain.run_plain.Goals as goal
 
@@ -62,11 +63,12 @@ dialers_now g c =
 pub returns-clause-works : goal.returns-clause-works
 returns-clause-works g c =
     let P : List WorkerRecord → Type 0 = λ ws. EachWorks g.N.Dialer.links g.N.Dialer.faults (g.K.Clock.may_give c.args.clock.now) (first_book c.args.plant) (first_book c.into_plant.result)
-    c.args.workers.now.items ws c.args.dialers.now.items c.make_rounds.new.dialers in
+    (HasFullBook (one_book c.into_plant.result)) c.args.workers.now.items ws c.args.dialers.now.items c.make_rounds.new.dialers in
     let Q : List g.row.N.Denot → Type 0 = λ ds. EachWorks g.N.Dialer.links g.N.Dialer.faults (g.K.Clock.may_give c.args.clock.now) (first_book c.args.plant) (first_book c.into_plant.result)
-    c.args.workers.now.items (take c.args.workers.now.len (c.make_rounds.new.workers ++ drop (length c.make_rounds.new.workers) c.args.workers.now.items))
+    (HasFullBook (one_book c.into_plant.result)) c.args.workers.now.items (take c.args.workers.now.len (c.make_rounds.new.workers ++ drop (length c.make_rounds.new.workers) c.args.workers.now.items))
     c.args.dialers.now.items ds in
-    subst Q (sym (dialers_now g c)) (subst P (sym (workers_now g c)) (work g c).each)
+    subst Q (sym (dialers_now g c)) (subst P (sym (workers_now g c))
+    (in_life g.N.Dialer.links g.N.Dialer.faults (g.K.Clock.may_give c.args.clock.now) (first_book c.args.plant) c.into_plant.result _ _ _ _ (work g c).each))
 
 pub returns-clause-over : goal.returns-clause-over
 returns-clause-over g c =

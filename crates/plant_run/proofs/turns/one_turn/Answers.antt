@@ -1,4 +1,4 @@
-use Rattle.std.proofs.Common.{◌≡◌, ap, subst}
+use Rattle.std.proofs.Common.{ap, subst}
 use Rattle.world_traits.specs.Clocks.{AreGiven}
 use Rattle.plant_run.proofs.Turning.{did, answers_rest}
 use Rattle.plant_run.proofs.turns.one_turn.Goals as goal

@@ -1,4 +1,4 @@
-use Rattle.std.proofs.Common.{◌≡◌, ℕ, Bool, List, Option, refl, ap, subst, ◌∙◌, arith}
+use Rattle.std.proofs.Common.{ℕ, Bool, List, Option, refl, ap, subst, ◌∙◌, arith}
 use Rattle.world_traits.specs.Links.{Links}
 use Rattle.plant_book.specs.declared.book.Entry.{Entry}
 use Rattle.ledger_desk.specs.Desk.{DeskTests, TestsLast}
