@@ -1,8 +1,8 @@
 -- A worker ends at a full book only where the book told so.
-use Rattle.std.proofs.Common.{◌≡◌, ℕ, ◌+◌, Bool, true, false, cond, ltb, eqb, List, [], ◌∷◌, length, ◌⊎◌, inl, inr, Option, Some, None, refl, sym, ap, subst}
+use Rattle.std.proofs.Common.{◌≡◌, ℕ, ◌+◌, Bool, true, false, cond, ltb, eqb, List, [], ◌∷◌, length, ◌⊎◌, inl, inr, Option, Some, None, refl, ap, subst}
 use Rattle.plant_book.specs.declared.call.Reply.TheVariants as reply
 use Rattle.plant_book.specs.declared.call.Read as reads
-use Rattle.plant_book.specs.Book.{BookRecord}
+use Rattle.ledger_desk.specs.Desk.{GoalTest}
 use Rattle.inverter_worker.specs.declared.job.Job.{Job}
 use Rattle.inverter_worker.specs.declared.input.Input.{Input}
 use Rattle.inverter_worker.specs.declared.input.Input.TheVariants as input
@@ -15,10 +15,10 @@ use Rattle.readback.specs.declared.judging.Judged.{Judged}
 use Rattle.readback.specs.declared.judging.Judged.TheVariants.{WrongNumber, WrongUnit, Exception, WrongReply, Differs, Shows}
 use Rattle.readback.specs.Judging.{judgement}
 use Rattle.inverter_worker.specs.States.{due, in_window}
-use Rattle.inverter_worker.specs.Table.{row, table, other_frame_row, judgement_row}
+use Rattle.inverter_worker.specs.Table.{row, other_frame_row, judgement_row}
 use Rattle.inverter_worker.specs.Runs.{RunStep, LeadsTo}
 use Rattle.worker_turn.specs.Agreeing.{made_by}
-use Rattle.plant_run.specs.Works.{AreTold, IsFull, IsToldAt}
+use Rattle.plant_run.specs.Works.{AreTold, IsToldAt}
 
 -- not over at a full book
 abbrev pub IsNotFull : Step → Type 0
@@ -122,15 +122,15 @@ full_or_not input.Full = inl refl
 full_or_not _ = inr tt
 
 -- a run that came to a full book was told so
-pub told_full : (job : Job) (book : BookRecord) (inverter : ℕ) (from last : State) (put : Output) (run : List RunStep) (calls : ℕ) → LeadsTo job from run last
-    → IsNotFull from.step → last.step ≡ Over over.BookFull → AreTold book inverter put run calls → IsFull book
-told_full job book inverter from last put [] calls leads other full told =
+pub told_full : (job : Job) (may_tell : GoalTest) (was_full : Type 0) (inverter : ℕ) (from last : State) (put : Output) (run : List RunStep) (made : ℕ) → LeadsTo job from run last
+    → IsNotFull from.step → last.step ≡ Over over.BookFull → AreTold may_tell was_full inverter put run made → was_full
+told_full job may_tell was_full inverter from last put [] made leads other full told =
     let P : Step → Type 0 = λ step. IsNotFull step in absurd (subst P full (subst P (ap (λ (s : State). s.step) leads) other))
-told_full job book inverter from last put (one ∷ later) calls leads other full told =
+told_full job may_tell was_full inverter from last put (one ∷ later) made leads other full told =
     elim (full_or_not one.input) [
-      | inl is ↦ let T : Input → Type 0 = λ came. IsToldAt book inverter calls came in subst T is told.0
+      | inl is ↦ let T : Input → Type 0 = λ came. IsToldAt may_tell was_full inverter made came in subst T is told.0
       | inr not ↦
           let next = leads.1.0 in
           let on : IsNotFull next.step = let L : Option (State × Output) → Type 0 = λ found. LeadsOn found in subst L leads.1.1.0 (leads_on job from from.step one.input not) in
-          told_full job book inverter next last one.output later (calls + length (made_by put one.input)) leads.1.1.1 on full told.1
+          told_full job may_tell was_full inverter next last one.output later (made + length (made_by put one.input)) leads.1.1.1 on full told.1
     ]

@@ -1,12 +1,11 @@
 -- The workers of a site before their first turns.
-use Rattle.std.proofs.Common.{◌≡◌, ℕ, zero, suc, ◌+◌, ◌<◌, List, [], ◌∷◌, ◌++◌, length, Option, Some, None, refl, sym, ap, subst, ◌∙◌, arith, length-append, ◌⊎◌, inl, inr, get_or, Bool, true, false, Result, Ok, Err}
+use Rattle.std.proofs.Common.{◌≡◌, ℕ, zero, suc, ◌<◌, List, [], ◌∷◌, ◌++◌, length, Some, refl, sym, ap, subst, ◌∙◌, arith, ◌⊎◌, inl, inr, get_or, false, Result, Ok, Err}
 use Rattle.std.specs.Prelude.{slice_get, if◌then◌else◌, is_ok, is_err}
 use Rattle.plant_book.specs.Site.{SiteRecord}
 use Rattle.site_config.specs.SiteFile.{SiteFileRecord}
-use Rattle.inverter_worker.specs.declared.job.Job.{Job}
 use Rattle.worker_turn.specs.Worker.{WorkerRecord, new_worker}
 use Rattle.plant_run.specs.Running.{EachWorker, IsNew, IsOfSite, Differ}
-use Rattle.site_run.specs.Run.{IsJobOf, IsSeated, AreSeated}
+use Rattle.site_run.specs.Run.{IsSeated, AreSeated}
 
 new_is : (worker : WorkerRecord) (turns : ℕ) → worker ≡ new_worker worker.job turns → IsNew worker
 new_is worker turns is = is ∙ ap (λ (n : ℕ). new_worker worker.job n) (sym (ap (λ (w : WorkerRecord). w.state.turns) is))

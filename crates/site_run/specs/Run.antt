@@ -1,5 +1,5 @@
 -- A run of the plant of a site file.
-use Rattle.std.specs.Prelude.{◌≡◌, ℕ, ◌<◌, ◌≤◌, Bool, true, IsTrue, List, [], length, Option, Some, None, slice_get}
+use Rattle.std.specs.Prelude.{◌≡◌, ℕ, ◌<◌, Bool, true, IsTrue, List, [], length, Option, Some, None, slice_get}
 use Rattle.std.specs.List.{AllByRecursion}
 use Rattle.world_traits.specs.Links.{Links}
 use Rattle.plant_book.specs.declared.book.Entry.{Entry}
@@ -15,7 +15,7 @@ use Rattle.worker_turn.specs.Worker.{WorkerRecord, new_worker}
 use Rattle.inverter_worker.specs.Turns.{readings}
 use Rattle.plant_run.specs.Own.{is_workers, own_world}
 use Rattle.plant_run.specs.Agreement.{Agrees}
-use Rattle.plant_run.specs.Works.{Works, IsFull}
+use Rattle.plant_run.specs.Works.{Works, IsFull, HasFullBook, one_book}
 use Rattle.plant_run.specs.Running.{IsOver, StayBehind}
 
 -- the job of the inverter of this number: its unit and its port, and the rules and times of the site file
@@ -51,8 +51,8 @@ pub record IsWork (may_give : ℕ → Bool) (file : SiteFileRecord) (turns numbe
     (after : WorkerRecord) (links links_now : Option Links) (faults faults_now : ℕ) : Type 0 where
   pub job : IsJobOf file number after.job
   pub works : Works may_give after.job (first_book (record plant { entries = [] })) (first_book plant)
-      (new_worker after.job turns) after links links_now faults faults_now
-  pub agrees : Agrees after.job (first_book plant) works.run
+      (HasFullBook (one_book plant)) (new_worker after.job turns) after links links_now faults faults_now
+  pub agrees : Agrees after.job (first_book plant) (HasFullBook (one_book plant)) works.run
       (own_world after.job.inverter (first_book (record plant { entries = [] })) links faults [] [])
       (own_world after.job.inverter (first_book plant) links_now faults_now (readings works.run) after.unread)
   pub over : IsOver after

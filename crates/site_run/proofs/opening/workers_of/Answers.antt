@@ -1,4 +1,4 @@
-use Rattle.std.proofs.Common.{◌≡◌, ℕ, ◌<◌, List, [], ◌∷◌, ◌++◌, length, Some, false, refl, sym, ap, subst, ◌∙◌, arith, append_assoc, length-append, rules, get_or}
+use Rattle.std.proofs.Common.{◌≡◌, ℕ, ◌<◌, List, [], ◌∷◌, ◌++◌, length, Some, refl, sym, ap, subst, ◌∙◌, arith, append_assoc, length-append, rules, get_or}
 use Rattle.std.specs.Prelude.{slice_get}
 use Rattle.plant_book.specs.Port.{PortRecord}
 use Rattle.plant_book.specs.Site.{SiteRecord, inverters}

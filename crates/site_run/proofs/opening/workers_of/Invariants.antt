@@ -1,5 +1,4 @@
 use Rattle.std.proofs.Common.{◌≡◌, ◌++◌, length}
-use Rattle.site_config.specs.SiteFile.{SiteFileRecord}
 use Rattle.site_run.specs.Run.{AreSeated}
 use Rattle.site_run.proofs.opening.workers_of.Given as goal
 
