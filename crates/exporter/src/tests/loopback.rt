@@ -1,13 +1,13 @@
 //! `live` in two threads of one process, over TCP on this machine.
+use super::links::{NONE, run_over};
 use super::sites::{INVERTER, Inverter, PLANT, Plant, site_file};
-use super::words;
-use exporter_commands::{Ended, LiveFault, live};
+use exporter_commands::{Ended, LiveFault};
 use host_adapters::{BootClock, Calling, Listening, Opener, TcpDialer};
 use std::alloc::AllocError;
 use std::net::{TcpListener, TcpStream};
 use std::test::Fail;
 use std::{io, thread};
-use world_traits::{BytesSink, BytesSource, Clock};
+use world_traits::Clock;
 
 /// A plant whose worker hardly rests.
 const QUICK: Plant = Plant {
@@ -24,26 +24,16 @@ fn run<C: Opener<Runtime = HostRuntime, Stream = TcpStream> + Send, K: Clock + S
     line: &str,
 ) -> Result<Ended, AllocError> {
     let alloc = rt.alloc();
-    let words = words(alloc, line)?;
     let inverter = Inverter {
         host: "127.0.0.2",
         port,
         ..INVERTER
     };
-    let text = site_file(alloc, QUICK, &[inverter])?;
-    let mut site = BytesSource::new(Vec::from_slice(alloc, text.as_bytes())?, Vec::new(alloc));
-    let mut console = BytesSource::new(Vec::new(alloc), Vec::new(alloc));
-    let mut out = BytesSink::new(alloc, Vec::new(alloc));
+    let site = site_file(alloc, QUICK, &[inverter])?;
     let mut dialers = TcpDialer::<C>::many(alloc, *rt, 64)?;
-    Ok(live(
-        alloc,
-        &words,
-        &mut site,
-        &mut console,
-        &mut out,
-        &mut dialers,
-        clock,
-    ))
+    let fails = (NONE, NONE);
+    let (ended, _) = run_over(alloc, line, site.as_str(), fails, &mut dialers, clock)?;
+    Ok(ended)
 }
 
 /// A port of this machine at which nobody listens.

@@ -1,13 +1,9 @@
 //! `run` over simulated inverters in memory.
-ghost use Rattle.std.specs.Prelude.{◌≡◌, ◌≤◌, IfSome};
-
-use super::links::{device, devices, run_over};
-use super::replayed;
+use super::links::{NONE, devices, run_over};
+use super::plain_commands;
 use super::sites::{Inverter, PLANT, Plant, site_file};
 use exporter_commands::Ended;
-use device_dialers::{CutDialer, DeviceDialer};
 use std::alloc::{AllocError, Global};
-use std::process::Abort;
 use std::test::Fail;
 use world_traits::{Link, StepClock};
 
@@ -38,27 +34,13 @@ fn inverters(alloc: Global, count: u16, watts: u16) -> Result<Vec<Inverter>, All
     Ok(all)
 }
 
-/// 64 dialers that reach simulations of inverters of 6 kW, of which the first cuts a frame.
-fn cut_dialers<'c>(
-    rt: &impl Abort,
-    alloc: Global,
-    clock: &'c StepClock,
-) -> Result<Vec<CutDialer<DeviceDialer<'c, StepClock>>>, Fail> {
-    let first = CutDialer::new(device(rt, alloc, 6_000, clock, Vec::new(alloc))?, Some(7));
-    let mut dialers = vec![in alloc; first]?;
-    for _ in 1..64 {
-        dialers.push(CutDialer::new(device(rt, alloc, 6_000, clock, Vec::new(alloc))?, None))?;
-    }
-    Ok(dialers)
-}
-
 /// Whether the frames of read-backs were sent on a link, and then the first 7 bytes of a write's.
 fn is_cut(link: &Link) -> bool {
     link.sent().len() % READ_BYTES == 7 && link.sent().ends_with(&CUT_END)
 }
 
-/// The last request of the other inverter: behind a read-back in each of its 200 turns, and 17 writes, one each 20 s from the
-/// 68th second to the 401st.
+/// The last request of the other inverter: behind a read-back in each of its 200 turns, and 17 writes, one each 20 s
+/// from the 68th second to the 401st.
 const OTHERS_LAST: [u8; READ_BYTES] = [0, 217, 0, 0, 0, 6, 1, 3, 0x9D, 0x76, 0, 8];
 
 /// What a read-back on a new link shows before the write's window has passed, and behind it.
@@ -87,9 +69,10 @@ fn before_second_link(alloc: Global, text: &str, behind: &str) -> Result<String,
 fn a_write_that_was_cut_short(rt: HostRuntime) -> Result<(), Fail> {
     let alloc = rt.alloc();
     let clock = StepClock::new(0, 1);
-    let mut dialers = cut_dialers(&rt, alloc, &clock)?;
+    let mut dialers = devices(&rt, alloc, 6_000, &clock, true)?;
     let site = site_file(alloc, PLANT, &inverters(alloc, 2, 6_000)?)?;
-    let (ended, out) = run_over(&rt, alloc, site.as_str(), "run 200", &mut dialers, &clock)?;
+    let fails = (NONE, NONE);
+    let (ended, out) = run_over(alloc, "run 200", site.as_str(), fails, &mut dialers, &clock)?;
     assert_eq!(rt; ended, Ended::Done);
     let log = dialers.first().ok_or("the first dialer")?.inner().log();
     let cut = log.link(0).is_some_and(is_cut);
@@ -98,13 +81,13 @@ fn a_write_that_was_cut_short(rt: HostRuntime) -> Result<(), Fail> {
         .taken()
         .strip_suffix(b"# worker 0 turns\n# worker 1 turns\n");
     let book = book.ok_or("the ends of the workers")?;
-    let again = replayed(alloc, out.taken())?;
+    let (_, again) = plain_commands::run(alloc, "replay", out.taken(), NONE, NONE)?;
     assert!(rt; again.taken() == book);
 
     // The write stays reserved up to the second link, and until a read-back behind its window frees it.
     let text = std::str::from_utf8(book).ok().ok_or("text")?;
     let probed = before_second_link(alloc, text, RESERVED)?;
-    let again = replayed(alloc, probed.as_bytes())?;
+    let (_, again) = plain_commands::run(alloc, "replay", probed.as_bytes(), NONE, NONE)?;
     assert!(rt; again.taken() == probed.as_bytes());
 
     // The other inverter has one link to the end.
@@ -134,9 +117,17 @@ fn first_granted<'t>(text: &'t str, inverter: u8) -> Option<&'t str> {
 fn a_plant_of_twelve(rt: HostRuntime) -> Result<(), Fail> {
     let alloc = rt.alloc();
     let clock = StepClock::new(0, 1);
-    let mut dialers = devices(&rt, alloc, 50_000, &clock, &[])?;
+    let mut dialers = devices(&rt, alloc, 50_000, &clock, false)?;
     let site = site_file(alloc, LARGE, &inverters(alloc, 12, 50_000)?)?;
-    let (ended, out) = run_over(&rt, alloc, site.as_str(), "run 1000", &mut dialers, &clock)?;
+    let fails = (NONE, NONE);
+    let (ended, out) = run_over(
+        alloc,
+        "run 1000",
+        site.as_str(),
+        fails,
+        &mut dialers,
+        &clock,
+    )?;
     assert_eq!(rt; ended, Ended::Done);
     let text = std::str::from_utf8(out.taken()).ok().ok_or("text")?;
     assert!(rt; !text.contains("crowded"));

@@ -1,12 +1,12 @@
 //! `run` with one inverter over links in memory.
 use super::first_lines;
-use super::links::{run_over, with_first};
+use super::links::{NONE, players, run_over};
 use super::sites::{INVERTER, PLANT, Plant, site_file};
 use exporter_commands::Ended;
 use std::alloc::{AllocError, Global};
 use std::process::Abort;
 use std::test::Fail;
-use world_traits::{Move, PlayDialer, PlayLink, StepClock};
+use world_traits::{Move, PlayLink, StepClock};
 
 /// A plant whose worker rests for longer than a write may act.
 const SLOW: Plant = Plant {
@@ -74,83 +74,121 @@ enum Heard {
 #[derive(Clone, Copy)]
 struct Case {
     name: &'static str,
-    /// What comes after the write was sent.
-    heard: [Option<Heard>; 2],
-    /// How many lines of the whole book are written.
+    /// What comes on the link.
+    heard: &'static [Heard],
+    /// The call of the dialer that fails.
+    fails: u32,
+    /// The book, and how many lines of it are written.
+    book: &'static str,
     lines: usize,
     /// What is written behind them.
     behind: &'static str,
 }
 
-const CLOSED: Case = Case {
-    name: "closed within a frame",
-    heard: [
-        Some(Heard::Bytes(&[0, 2, 0, 0, 0, 6, 1, 16])),
-        Some(Heard::Closed),
-    ],
-    lines: TO_WRITE,
-    behind: TURNS,
-};
+/// The reply to the first read-back: the inverter holds its floor.
+const HELD: Heard = Heard::Shown(1, [0, 100], 100);
 
-const TWICE: Case = Case {
-    name: "a reply that comes twice",
-    heard: [
-        Some(Heard::Bytes(&WROTE_TWICE)),
-        Some(Heard::Shown(3, [3, 0xE8], 100)),
-    ],
+/// Each way in which a link goes wrong behind the write.
+const CASES: [Case; 8] = [
+    Case {
+        name: "closed within a frame",
+        heard: &[
+            HELD,
+            Heard::Bytes(&[0, 2, 0, 0, 0, 6, 1, 16]),
+            Heard::Closed,
+        ],
+        fails: NONE,
+        book: WHOLE,
+        lines: TO_WRITE,
+        behind: TURNS,
+    },
+    Case {
+        name: "a reply that comes twice",
+        heard: &[
+            HELD,
+            Heard::Bytes(&WROTE_TWICE),
+            Heard::Shown(3, [3, 0xE8], 100),
+        ],
+        fails: NONE,
+        book: WHOLE,
+        lines: 10,
+        behind: TURNS,
+    },
+    Case {
+        name: "replies to another request",
+        heard: &[HELD, Heard::Bytes(&OTHERS)],
+        fails: NONE,
+        book: WHOLE,
+        lines: TO_WRITE,
+        behind: TURNS,
+    },
+    Case {
+        name: "no frame",
+        heard: &[HELD, Heard::Bytes(&[0, 2, 0, 1])],
+        fails: NONE,
+        book: WHOLE,
+        lines: TO_WRITE,
+        behind: TURNS,
+    },
+    Case {
+        name: "an exception",
+        heard: &[
+            HELD,
+            Heard::Bytes(&[0, 2, 0, 0, 0, 3, 1, 0x90, 3]),
+            Heard::Shown(3, [0, 100], 100),
+        ],
+        fails: NONE,
+        book: WHOLE,
+        lines: TO_READ,
+        behind: "saw 70011 0 3 100 = freed 1 600000\n# worker 0 turns\n",
+    },
+    Case {
+        name: "another limit",
+        heard: &[HELD, Heard::Bytes(&WROTE), Heard::Shown(3, [1, 0xF4], 100)],
+        fails: NONE,
+        book: WHOLE,
+        lines: TO_READ,
+        behind: "saw 70011 0 3 500 = strange 500\n# worker 0 turns\n",
+    },
+    Case {
+        name: "another floor",
+        heard: &[HELD, Heard::Bytes(&WROTE), Heard::Shown(3, [3, 0xE8], 101)],
+        fails: NONE,
+        book: WHOLE,
+        lines: TO_READ,
+        behind: "# worker 0 unfit pctrvrt 100 101\n",
+    },
+    Case {
+        name: "the first dial fails",
+        heard: &[],
+        fails: 0,
+        book: LATE,
+        lines: 5,
+        behind: TURNS,
+    },
+];
+
+/// What comes where nothing goes wrong.
+const ANSWERED: Case = Case {
+    name: "a call fails",
+    heard: &[HELD, Heard::Bytes(&WROTE), Heard::Shown(3, [3, 0xE8], 100)],
+    fails: NONE,
+    book: WHOLE,
     lines: 10,
     behind: TURNS,
 };
 
-const STRAY: Case = Case {
-    name: "replies to another request",
-    heard: [Some(Heard::Bytes(&OTHERS)), None],
-    lines: TO_WRITE,
-    behind: TURNS,
-};
-
-const NO_FRAME: Case = Case {
-    name: "no frame",
-    heard: [Some(Heard::Bytes(&[0, 2, 0, 1])), None],
-    lines: TO_WRITE,
-    behind: TURNS,
-};
-
-const REFUSED: Case = Case {
-    name: "an exception",
-    heard: [
-        Some(Heard::Bytes(&[0, 2, 0, 0, 0, 3, 1, 0x90, 3])),
-        Some(Heard::Shown(3, [0, 100], 100)),
-    ],
-    lines: TO_READ,
-    behind: "saw 70011 0 3 100 = freed 1 600000
-# worker 0 turns
-",
-};
-
-const STRANGE: Case = Case {
-    name: "another limit",
-    heard: [
-        Some(Heard::Bytes(&WROTE)),
-        Some(Heard::Shown(3, [1, 0xF4], 100)),
-    ],
-    lines: TO_READ,
-    behind: "saw 70011 0 3 500 = strange 500
-# worker 0 turns
-",
-};
-
-const UNFIT: Case = Case {
-    name: "another floor",
-    heard: [
-        Some(Heard::Bytes(&WROTE)),
-        Some(Heard::Shown(3, [3, 0xE8], 101)),
-    ],
-    lines: TO_READ,
-    behind: "# worker 0 unfit pctrvrt 100 101\n",
-};
-
-const CASES: [Case; 7] = [CLOSED, TWICE, STRAY, NO_FRAME, REFUSED, STRANGE, UNFIT];
+/// How many lines of the whole book are written where a call of the dialer fails: the send and the receive of the first
+/// read-back, of the write, and of the second read-back; and at last where none fails.
+const LINES: [(u32, usize); 7] = [
+    (1, 6),
+    (2, 6),
+    (3, TO_WRITE),
+    (4, TO_WRITE),
+    (5, TO_READ),
+    (6, TO_READ),
+    (7, 10),
+];
 
 fn move_of(alloc: Global, heard: Heard) -> Result<Move, AllocError> {
     match heard {
@@ -166,103 +204,50 @@ fn move_of(alloc: Global, heard: Heard) -> Result<Move, AllocError> {
     }
 }
 
-/// 64 dialers, of which the first has one link, which takes 1,000 bytes and plays these moves. Its calls with these
-/// numbers fail.
-fn dialers(
-    alloc: Global,
-    moves: Vec<Move>,
-    failing: Vec<u32>,
-) -> Result<Vec<PlayDialer>, AllocError> {
-    let link = PlayLink {
-        takes: 1_000,
-        moves,
-    };
-    with_first(
-        alloc,
-        PlayDialer::new(alloc, vec![in alloc; link]?, failing),
-    )
-}
-
-/// The moves of a link whose inverter holds its floor at first, and then plays these.
-fn moves(alloc: Global, heard: [Option<Heard>; 2]) -> Result<Vec<Move>, AllocError> {
+/// That a run of two turns comes to what this case says.
+fn check(rt: &impl Abort, alloc: Global, case: Case) -> Result<(), Fail> {
     let mut moves = Vec::new(alloc);
-    moves.push(move_of(alloc, Heard::Shown(1, [0, 100], 100))?)?;
-    for heard in heard.into_iter().flatten() {
-        moves.push(move_of(alloc, heard)?)?;
+    for heard in case.heard {
+        moves.push(move_of(alloc, *heard)?)?;
     }
-    Ok(moves)
-}
-
-/// That a run of two turns over these dialers is done, and writes this.
-fn comes_to(
-    rt: &impl Abort,
-    alloc: Global,
-    mut dialers: Vec<PlayDialer>,
-    text: &str,
-    name: &str,
-) -> Result<(), Fail> {
+    let takes = 1_000;
+    let links = vec![in alloc; PlayLink { takes, moves }]?;
+    let mut dialers = players(alloc, links, vec![in alloc; case.fails]?)?;
     let site = site_file(alloc, SLOW, &[INVERTER])?;
-    let (ended, out) = run_over(
-        rt,
-        alloc,
-        site.as_str(),
-        "run 2",
-        &mut dialers,
-        &StepClock::new(0, 1),
-    )?;
-    assert_eq!(rt; ended, Ended::Done, "{name}");
-    assert_eq!(rt; out.taken(), text.as_bytes(), "{name}");
+    let fails = (NONE, NONE);
+    let clock = StepClock::new(0, 1);
+    let (ended, out) = run_over(alloc, "run 2", site.as_str(), fails, &mut dialers, &clock)?;
+    let mut text = first_lines(alloc, case.book, case.lines)?;
+    text.push_str(case.behind)?;
+    assert_eq!(rt; ended, Ended::Done, "{} {}", case.name, case.fails);
+    assert_eq!(rt;
+        out.taken(),
+        text.as_bytes(),
+        "{} {}",
+        case.name,
+        case.fails
+    );
     Ok(())
 }
 
 #[test]
-fn a_link_that_goes_wrong(rt: HostRuntime) -> Result<(), Fail> {
+fn a_link_that_goes_wrong_and_a_dialer_that_fails_at_each_call(
+    rt: HostRuntime,
+) -> Result<(), Fail> {
     let alloc = rt.alloc();
-    for case in CASES {
-        let dialers = dialers(alloc, moves(alloc, case.heard)?, Vec::new(alloc))?;
-        let mut text = first_lines(alloc, WHOLE, case.lines)?;
-        text.push_str(case.behind)?;
-        comes_to(&rt, alloc, dialers, text.as_str(), case.name)?;
+    for case in &CASES {
+        check(&rt, alloc, *case)?;
+    }
+    for (fails, lines) in LINES {
+        check(
+            &rt,
+            alloc,
+            Case {
+                fails,
+                lines,
+                ..ANSWERED
+            },
+        )?;
     }
     Ok(())
-}
-
-/// What comes where nothing goes wrong.
-const ANSWERED: [Option<Heard>; 2] = [
-    Some(Heard::Bytes(&WROTE)),
-    Some(Heard::Shown(3, [3, 0xE8], 100)),
-];
-
-/// How many lines of the whole book are written where a call of the dialer fails: the send and the receive of the first
-/// read-back, of the write, and of the second read-back; and at last where none fails.
-const LINES: [(u32, usize); 7] = [
-    (1, 6),
-    (2, 6),
-    (3, TO_WRITE),
-    (4, TO_WRITE),
-    (5, TO_READ),
-    (6, TO_READ),
-    (7, 10),
-];
-
-#[test]
-fn a_dialer_that_fails_at_each_call(rt: HostRuntime) -> Result<(), Fail> {
-    let alloc = rt.alloc();
-    for (call, lines) in LINES {
-        let failing = vec![in alloc; call]?;
-        let dialers = dialers(alloc, moves(alloc, ANSWERED)?, failing)?;
-        let mut text = first_lines(alloc, WHOLE, lines)?;
-        text.push_str(TURNS)?;
-        let name = format!(in alloc; "call {call}")?;
-        comes_to(&rt, alloc, dialers, text.as_str(), name.as_str())?;
-    }
-    Ok(())
-}
-
-#[test]
-fn a_first_dial_that_fails(rt: HostRuntime) -> Result<(), Fail> {
-    let alloc = rt.alloc();
-    let dialers = dialers(alloc, Vec::new(alloc), vec![in alloc; 0]?)?;
-    let text = format!(in alloc; "{LATE}{TURNS}")?;
-    comes_to(&rt, alloc, dialers, text.as_str(), "the first dial")
 }

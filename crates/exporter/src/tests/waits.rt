@@ -1,11 +1,9 @@
 //! How long dials wait, and how long a worker rests, which no clause says.
 ghost use Rattle.std.specs.Prelude.{◌≡◌, None};
 
-use super::links::run_over;
+use super::links::{NONE, run_over};
 use super::sites::{INVERTER, PLANT, Plant, site_file};
 use exporter_commands::{Ended, LiveFault};
-use std::alloc::Global;
-use std::process::Abort;
 use std::test::Fail;
 use world_traits::{Clock, DialFailed, Dialer, Received, RecvFailed, SendFailed, StepClock};
 
@@ -16,12 +14,11 @@ const TIMED: Plant = Plant {
     ..PLANT
 };
 
-/// A dialer that reaches nobody, and counts the dials that were to wait as long as the site file says, and the others.
+/// A dialer that reaches nobody, and adds up how long its dials were to wait.
 #[derive(Clone, Copy, Drop)]
 struct Nobody {
     faults: u64,
-    right: u32,
-    wrong: u32,
+    waited: u64,
 }
 
 impl Dialer for Nobody {
@@ -30,11 +27,7 @@ impl Dialer for Nobody {
     ghost faults = { λ s. s.faults };
 
     fn dial(&mut self, _host: &str, _port: u16, wait: u32) -> Result<(), DialFailed> {
-        if wait == 2_345 {
-            self.right = self.right.saturating_add(1);
-        } else {
-            self.wrong = self.wrong.saturating_add(1);
-        }
+        self.waited = self.waited.saturating_add(u64::from(wait));
         self.faults = self.faults.saturating_add(1);
         Err(DialFailed)
     }
@@ -52,38 +45,31 @@ impl Dialer for Nobody {
     fn hang_up(&mut self) {}
 }
 
-/// How `live` ends with these words where nobody is reached, and how many dials of the first dialer were to wait right
-/// and wrong.
-fn dials(
-    rt: &impl Abort,
-    alloc: Global,
-    line: &str,
-    clock: &StepClock,
-) -> Result<(Ended, u32, u32), Fail> {
-    let nobody = Nobody {
-        faults: 0,
-        right: 0,
-        wrong: 0,
-    };
-    let mut dialers = vec![in alloc; nobody; 64]?;
-    let site = site_file(alloc, TIMED, &[INVERTER])?;
-    let (ended, _) = run_over(rt, alloc, site.as_str(), line, &mut dialers, clock)?;
-    let first = dialers.first().ok_or("a dialer")?;
-    Ok((ended, first.right, first.wrong))
-}
-
 /// A turn whose dial fails rests for `pause`, and reads no clock.
 #[test]
 fn each_dial_waits_and_each_turn_rests_as_the_site_file_says(rt: HostRuntime) -> Result<(), Fail> {
-    let clock = StepClock::new(0, 1);
-    let refused = dials(&rt, rt.alloc(), "commission 0", &clock)?;
-    assert_eq!(rt; refused, (Ended::Refused(LiveFault::Dial), 1, 0));
-    let served = dials(&rt, rt.alloc(), "serve 0 3", &clock)?;
-    assert_eq!(rt; served, (Ended::Done, 3, 0));
-    let before = clock.now();
-    let ran = dials(&rt, rt.alloc(), "run 2", &clock)?;
-    assert_eq!(rt; ran, (Ended::Done, 2, 0));
-    let rested = clock.now().saturating_sub(before);
-    assert!(rt; (6_001..6_010).contains(&rested));
+    let alloc = rt.alloc();
+    let site = site_file(alloc, TIMED, &[INVERTER])?;
+
+    // How often it dials, and how long its turns rest.
+    let rows = [
+        ("commission 0", Ended::Refused(LiveFault::Dial), 1, 0..10),
+        ("serve 0 3", Ended::Done, 3, 0..1_000_000),
+        ("run 2", Ended::Done, 2, 6_001..6_010),
+    ];
+    for (line, end, dials, rest) in rows {
+        let clock = StepClock::new(0, 1);
+        let nobody = Nobody {
+            faults: 0,
+            waited: 0,
+        };
+        let mut dialers = vec![in alloc; nobody; 64]?;
+        let fails = (NONE, NONE);
+        let (ended, _) = run_over(alloc, line, site.as_str(), fails, &mut dialers, &clock)?;
+        assert_eq!(rt; ended, end);
+        let first = dialers.first().ok_or("a dialer")?;
+        assert_eq!(rt; (first.faults, first.waited), (dials, dials * 2_345));
+        assert!(rt; rest.contains(&clock.now()));
+    }
     Ok(())
 }
