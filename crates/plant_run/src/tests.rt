@@ -10,7 +10,10 @@ use plant_ledger::Plant;
 use std::alloc::{AllocError, Global};
 use std::test::Fail;
 use worker_turn::Worker;
-use world_traits::{Move, PlayDialer, PlayLink, StepClock};
+use world_traits::{
+    Clock, DialFailed, Dialer, Move, PlayDialer, PlayLink, Received, RecvFailed, SendFailed,
+    StepClock,
+};
 
 /// What a life came to: its entries, the workers' ends, and what the first one sent.
 #[derive(Drop)]
@@ -84,11 +87,12 @@ fn ends(alloc: Global, workers: &[Worker]) -> Result<Vec<Option<End>>, AllocErro
 }
 
 /// A life of these workers over these dialers.
-fn lived(
+fn lived<N: Dialer>(
     alloc: Global,
     plant: Plant,
     mut workers: Vec<Worker>,
-    dialers: &mut Vec<PlayDialer>,
+    dialers: &mut Vec<N>,
+    clock: &StepClock,
 ) -> Result<Ran, Fail>
     requires dialers { vec_len workers ≤ vec_len dialers.old }
     requires opened { (plant.carry ≡ None) × (plant.entries ≡ []) }
@@ -96,8 +100,7 @@ fn lived(
     requires site { EachWorker (IsOfSite plant.site) workers.items }
     requires differ { Differ workers.items }
 {
-    let clock = StepClock::new(1, 1);
-    let plant = run_plain(alloc, plant, &mut workers, dialers, &clock);
+    let plant = run_plain(alloc, plant, &mut workers, dialers, clock);
     let first = workers.first().ok_or("a worker")?;
     Ok(Ran {
         entries: entries(alloc, &plant)?,
@@ -107,16 +110,13 @@ fn lived(
 }
 
 /// The life of one inverter over this dialer, in two turns far apart.
-fn alone(alloc: Global, dialer: PlayDialer) -> Result<Ran, Fail> {
+fn alone<N: Dialer>(alloc: Global, dialers: &mut Vec<N>, clock: &StepClock) -> Result<Ran, Fail>
+    requires { vec_len dialers.old ≡ 1 }
+{
     let (unit, rules) = (unit()?, rules()?);
     let plant = plant(alloc, vec![in alloc; unit]?, rules)?;
     let only = worker(alloc, unit, rules, 0, 2, 70_000);
-    lived(
-        alloc,
-        plant,
-        vec![in alloc; only]?,
-        &mut vec![in alloc; dialer]?,
-    )
+    lived(alloc, plant, vec![in alloc; only]?, dialers, clock)
 }
 
 /// The life of two inverters over these dialers, in so many turns.
@@ -126,7 +126,8 @@ fn pair(alloc: Global, dialers: [PlayDialer; 2], turns: u32) -> Result<Ran, Fail
     let first = worker(alloc, unit, rules, 0, turns, 1_000);
     let second = worker(alloc, unit, rules, 1, turns, 1_000);
     let mut dialers = Vec::from_array(alloc, dialers)?;
-    lived(alloc, plant, vec![in alloc; first, second]?, &mut dialers)
+    let workers = vec![in alloc; first, second]?;
+    lived(alloc, plant, workers, &mut dialers, &StepClock::new(1, 1))
 }
 
 /// The life of three inverters over these dialers, in so many turns.
@@ -137,12 +138,8 @@ fn three(alloc: Global, dialers: [PlayDialer; 3], turns: u32) -> Result<Ran, Fai
     let second = worker(alloc, unit, rules, 1, turns, 1_000);
     let third = worker(alloc, unit, rules, 2, turns, 1_000);
     let mut dialers = Vec::from_array(alloc, dialers)?;
-    lived(
-        alloc,
-        plant,
-        vec![in alloc; first, second, third]?,
-        &mut dialers,
-    )
+    let workers = vec![in alloc; first, second, third]?;
+    lived(alloc, plant, workers, &mut dialers, &StepClock::new(1, 1))
 }
 
 /// A dialer of two links that take 1,000 bytes each, and answer nothing.
@@ -155,6 +152,37 @@ fn silent_links(alloc: Global) -> Result<PlayDialer, AllocError> {
         })?;
     }
     Ok(PlayDialer::new(alloc, links, Vec::new(alloc)))
+}
+
+/// A dialer that reads its worker's clock at each send, and keeps the readings.
+#[derive(Drop)]
+struct Stamping<'c, N> {
+    below: N,
+    clock: &'c StepClock,
+    stamps: Vec<u64>,
+}
+
+impl<'c, N: Dialer> Dialer for Stamping<'c, N> {
+    ghost links = { λ s. N.links s.below };
+
+    ghost faults = { λ s. N.faults s.below };
+
+    fn dial(&mut self, host: &str, port: u16, wait: u32) -> Result<(), DialFailed> {
+        self.below.dial(host, port, wait)
+    }
+
+    fn send(&mut self, bytes: &[u8]) -> Result<usize, SendFailed> {
+        let _ = self.stamps.push(self.clock.now());
+        self.below.send(bytes)
+    }
+
+    fn recv(&mut self, into: &mut [u8]) -> Result<Received, RecvFailed> {
+        self.below.recv(into)
+    }
+
+    fn hang_up(&mut self) {
+        self.below.hang_up();
+    }
 }
 
 /// A dialer without a link.
@@ -173,7 +201,8 @@ fn dialer(alloc: Global, moves: Vec<Move>) -> Result<PlayDialer, AllocError> {
 
 /// The life of one inverter over a link that plays these moves, in two turns far apart.
 fn two_turns(alloc: Global, moves: Vec<Move>) -> Result<Ran, Fail> {
-    alone(alloc, dialer(alloc, moves)?)
+    let mut dialers = vec![in alloc; dialer(alloc, moves)?]?;
+    alone(alloc, &mut dialers, &StepClock::new(1, 1))
 }
 
 fn linked(at: u64) -> Entry {
@@ -300,6 +329,30 @@ fn a_read_back_is_entered_and_sent(rt: HostRuntime) -> Result<(), Fail> {
         [linked(2), silent(3), read_as(4, 1)].as_slice()
     );
     assert_eq!(rt; ran.log.as_slice(), [sent_read(1, 4, 5)].as_slice());
+    Ok(())
+}
+
+#[test]
+fn the_clock_is_read_right_before_each_send(rt: HostRuntime) -> Result<(), Fail> {
+    let alloc = rt.alloc();
+    let clock = StepClock::new(1, 1);
+    let wrote = [0, 2, 0, 0, 0, 6, 1, 16, 0x9D, 0x76, 0, 6];
+    let moves = moves(alloc, &wrote, shown(alloc, 3, [3, 0xE8], 100)?)?;
+    let stamping = Stamping {
+        below: dialer(alloc, moves)?,
+        clock: &clock,
+        stamps: Vec::new(alloc),
+    };
+    let mut dialers = vec![in alloc; stamping]?;
+    let ran = alone(alloc, &mut dialers, &clock)?;
+    let stamping = dialers.first().ok_or("a dialer")?;
+    let log = [
+        sent_read(1, 4, 5),
+        sent(Asked::Write(write(2, 70_008)), 70_009),
+        sent_read(3, 70_011, 70_012),
+    ];
+    assert_eq!(rt; ran.log.as_slice(), log.as_slice());
+    assert_eq!(rt; stamping.stamps.as_slice(), [6, 70_010, 70_013].as_slice());
     Ok(())
 }
 
