@@ -1,0 +1,78 @@
+-- A console between two lines, and what handling one line comes to. No promise to a caller names this.
+use Rattle.std.specs.Prelude.{◌≡◌, ℕ, ◌≤◌, ◌⊎◌, List, [], ◌∷◌, ◌++◌, codes, length, Option, Some, None, Result, Ok, Err}
+use Rattle.std.specs.Io.KnownBytes.{Appends}
+use Rattle.std.specs.Str.Iter.{LacksByte}
+use Rattle.plant_book.specs.Part.{PartRecord}
+use Rattle.ledger_desk.specs.Desk.{DeskState, GoalTest, RollTest, LifeTest, GoalsLast, RollsLast, LivesLast, EntersNone}
+use Rattle.stream_io.specs.Streams.{AppendsFront}
+use Rattle.operator_console.specs.declared.order.Order.{Order}
+use Rattle.operator_console.specs.declared.console.ConsoleEnd.{ConsoleEnd}
+use Rattle.operator_console.specs.declared.console.ConsoleEnd.TheVariants as ends
+use Rattle.operator_console.specs.Orders.{IsOrder, call_of}
+use Rattle.operator_console.specs.Deeds.{Deed, Rolled, Tests, IsDeed, deed_entries, deed_fronts, deed_rolls, deed_text}
+use Rattle.operator_console.specs.Transcript.{Done, AreDone, IsStop, NeverFall, bytes_of, text_of}
+
+-- what passed a test of the desk before passes it now
+pub record TestsLast (may_tell may_tell_now : GoalTest) (was_full was_full_now : Type 0) (ended ended_now : RollTest)
+    (full_life full_life_now : LifeTest) : Type 0 where
+  pub goals : GoalsLast may_tell may_tell_now
+  pub full : was_full → was_full_now
+  pub rolls : RollsLast ended ended_now
+  pub lives : LivesLast full_life full_life_now
+
+-- the desk did the deed of a line
+pub record Does (tests : Tests) (line : List ℕ) (deed : Deed) (old new : DeskState) : Type 0 where
+  pub is : IsDeed tests old.inverters (length old.made) (length old.rolls) line deed
+  pub made : new.made ≡ old.made ++ deed_entries deed
+  pub rolls : new.rolls ≡ old.rolls ++ deed_rolls deed
+  pub fronts : NeverFall old.front (deed_fronts deed) new.front
+  pub inverters : new.inverters ≡ old.inverters
+
+-- the deed was done, and its text written whole, or cut short
+abbrev pub IsWhole : Tests → (number : ℕ) → (line : List ℕ) → (old new : DeskState)
+    → (taken taken_now : Option (List ℕ)) → Type 0
+IsWhole tests number line old new taken taken_now =
+    (deed : Deed) × Does tests line deed old new × Appends taken taken_now (deed_text number deed)
+
+abbrev pub IsCut : Tests → (number : ℕ) → (line : List ℕ) → (old new : DeskState)
+    → (taken taken_now : Option (List ℕ)) → Type 0
+IsCut tests number line old new taken taken_now =
+    (deed : Deed) × Does tests line deed old new × AppendsFront taken taken_now (deed_text number deed)
+
+-- the same of a roll
+abbrev pub IsRollCut : Tests → (number : ℕ) → (line : List ℕ) → (old new : DeskState)
+    → (taken taken_now : Option (List ℕ)) → Type 0
+IsRollCut tests number line old new taken taken_now =
+    (front : ℕ) × (book : PartRecord) × Does tests line (Rolled front book) old new
+    × AppendsFront taken taken_now (deed_text number (Rolled front book))
+
+-- What handling a line comes to: it was done, or the console ends.
+abbrev pub IsHandled : Result (Unit {0}) ConsoleEnd → Tests → (was_full : Type 0) → (number : ℕ) → (line : List ℕ)
+    → (old new : DeskState) → (taken taken_now : Option (List ℕ)) → Type 0
+IsHandled (Ok _) tests was_full number line old new taken taken_now =
+    (¬ (line ≡ codes "stop")) × IsWhole tests number line old new taken taken_now
+IsHandled (Err ends.Stopped) tests was_full number line old new taken taken_now =
+    (line ≡ codes "stop") × IsWhole tests number line old new taken taken_now
+IsHandled (Err ends.WriteFault) tests was_full number line old new taken taken_now =
+    IsCut tests number line old new taken taken_now
+IsHandled (Err ends.BookFull) tests was_full number line old new taken taken_now =
+    was_full × EntersNone old new × Appends taken taken_now []
+    × ((order : Order) × IsOrder old.inverters line order × ¬ (call_of order 0 ≡ None))
+IsHandled (Err ends.NoMemory) tests was_full number line old new taken taken_now =
+    (EntersNone old new × Appends taken taken_now [])
+    ⊎ ((¬ (line ≡ codes "stop")) × IsRollCut tests number line old new taken taken_now)
+IsHandled (Err _) tests was_full number line old new taken taken_now = ⊥
+
+-- The bytes read so far are whole lines, which were done, and the begin of a line that is held.
+pub record IsTaking (tests : Tests) (old new : DeskState) (taken taken_now : Option (List ℕ)) (read : List ℕ)
+    (number : ℕ) (held : List ℕ) : Type 0 where
+  pub dones : List Done
+  pub are : AreDone tests old new dones
+  pub whole : (before : List Done) (done : Done) (behind : List Done) → dones ≡ before ++ done ∷ behind
+      → ¬ (done.end ≡ [])
+  pub going : (before : List Done) (done : Done) (behind : List Done) → dones ≡ before ++ done ∷ behind
+      → ¬ IsStop done
+  pub parts : read ≡ bytes_of dones ++ held
+  pub one : LacksByte 10 held
+  pub count : number ≡ length dones
+  pub written : Appends taken taken_now (text_of dones)
