@@ -4,7 +4,7 @@ ghost use Rattle.std.specs.Prelude.{◌≡◌, ◌<◌, ◌≤◌, ◌^◌, ◌+
 ghost use Rattle.std.specs.Fmt.{decimal};
 ghost use Rattle.operator_console.specs.Orders.{IsInRange, IsOrder, order_line};
 
-use crate::finding::find;
+use crate::finding::parts_at;
 use itoa::Buffer;
 
 /// The greatest wish and the greatest cap, in mW.
@@ -35,17 +35,29 @@ pub enum Order {
     Roll,
 }
 
-/// The number that a word is: decimal, without a sign or a leading zero.
-fn number_of(word: &[u8]) -> Option<u64>
-    ensures some { IfSome result (λ number. (word.now ≡ decimal number) × (number < 2 ^ 64)) }
-    ensures none { IfNone result ((number : ℕ) → number < 2 ^ 64 → word.now ≡ decimal number → ⊥) }
+/// The number that a text is: decimal, without a sign or a leading zero.
+fn text_number(text: &str) -> Option<u64>
+    ensures some { IfSome result (λ number. (text.now ≡ decimal number) × (number < 2 ^ 64)) }
+    ensures none { IfNone result ((number : ℕ) → number < 2 ^ 64 → text.now ≡ decimal number → ⊥) }
 {
-    let text = str::from_utf8(word).ok()?;
-    let number = text.parse::<u64>().ok()?;
+    let Ok(number) = text.parse::<u64>() else {
+        return None;
+    };
     if Buffer::new().format(number) == text {
         Some(number)
     } else {
         None
+    }
+}
+
+/// The number that a word is.
+fn number_of(word: &[u8]) -> Option<u64>
+    ensures some { IfSome result (λ number. (word.now ≡ decimal number) × (number < 2 ^ 64)) }
+    ensures none { IfNone result ((number : ℕ) → number < 2 ^ 64 → word.now ≡ decimal number → ⊥) }
+{
+    match str::from_utf8(word) {
+        Ok(text) => text_number(text),
+        Err(_) => None,
     }
 }
 
@@ -55,11 +67,10 @@ fn cap_of(word: &[u8]) -> Option<Order>
         × (mw ≤ 10 ^ 14) × (word.now ≡ decimal mw)) }
     ensures exact { (mw : ℕ) → mw ≤ 10 ^ 14 → word.now ≡ decimal mw → result ≡ Some (Order.Cap mw) }
 {
-    let mw = number_of(word)?;
-    if mw > MW_MAX {
-        return None;
+    match number_of(word) {
+        Some(mw) if mw <= MW_MAX => Some(Order::Cap { mw }),
+        _ => None,
     }
-    Some(Order::Cap { mw })
 }
 
 /// The order of a wish that these words are: an inverter of so many and its limit.
@@ -70,16 +81,16 @@ fn want_of(words: &[u8], inverters: u32) -> Option<Order>
     ensures exact { (inverter mw : ℕ) → inverter < inverters → mw ≤ 10 ^ 14
         → words.now ≡ decimal inverter ++ codes " " ++ decimal mw → result ≡ Some (Order.Want inverter mw) }
 {
-    let space = find(words, b' ')?;
-    let inverter = number_of(&words[..space])?;
-    let mw = number_of(&words[space + 1..])?;
-    if inverter >= u64::from(inverters) || mw > MW_MAX {
-        return None;
+    let (inverter, mw) = parts_at(words, b' ')?;
+    match (number_of(inverter), number_of(mw)) {
+        (Some(inverter), Some(mw)) if inverter < u64::from(inverters) && mw <= MW_MAX => {
+            Some(Order::Want {
+                inverter: inverter as u8,
+                mw,
+            })
+        }
+        _ => None,
     }
-    Some(Order::Want {
-        inverter: inverter as u8,
-        mw,
-    })
 }
 
 /// The order of one word alone that a line is.
