@@ -63,6 +63,10 @@ pub record Tests : Type 1 where
   pub ended : RollTest
   pub full_life : LifeTest
 
+abbrev pub tests_of : (ℕ → Bool) → GoalTest → RollTest → LifeTest → Tests
+tests_of may_give may_tell ended full_life =
+    record { may_give = may_give; may_tell = may_tell; ended = ended; full_life = full_life }
+
 -- the entry of a call: at its own moment or a later one, with a reply that it may have
 pub record IsEntryOf (call : Call) (entry : Entry) : Type 0 where
   pub at : ℕ

@@ -1,15 +1,19 @@
 -- A console between two lines, and what handling one line comes to. No promise to a caller names this.
-use Rattle.std.specs.Prelude.{◌≡◌, ℕ, ◌≤◌, ◌⊎◌, List, [], ◌∷◌, ◌++◌, codes, length, Option, Some, None, Result, Ok, Err}
+use Rattle.std.specs.Prelude.{◌≡◌, ℕ, ◌≤◌, ◌⊎◌, All, map, List, [], ◌∷◌, ◌++◌, codes, length, Option, Some, None, Result, Ok, Err}
+use Rattle.std.specs.List.{flat_map, range_with_len}
 use Rattle.std.specs.Io.KnownBytes.{Appends}
 use Rattle.std.specs.Str.Iter.{LacksByte}
+use Rattle.plant_book.specs.declared.call.Call.{Call}
+use Rattle.plant_book.specs.declared.call.Reply.{Reply}
 use Rattle.plant_book.specs.Part.{PartRecord}
-use Rattle.ledger_desk.specs.Desk.{DeskState, GoalTest, RollTest, LifeTest, GoalsLast, RollsLast, LivesLast, EntersNone}
+use Rattle.ledger_desk.specs.Desk.{DeskState, GoalTest, RollTest, LifeTest, GoalsLast, RollsLast, LivesLast, Enters, EntersNone}
 use Rattle.stream_io.specs.Streams.{AppendsFront}
 use Rattle.operator_console.specs.declared.order.Order.{Order}
 use Rattle.operator_console.specs.declared.console.ConsoleEnd.{ConsoleEnd}
 use Rattle.operator_console.specs.declared.console.ConsoleEnd.TheVariants as ends
 use Rattle.operator_console.specs.Orders.{IsOrder, call_of}
-use Rattle.operator_console.specs.Deeds.{Deed, Rolled, Tests, IsDeed, deed_entries, deed_fronts, deed_rolls, deed_text}
+use Rattle.operator_console.specs.Comments.{reply_line, goal_line}
+use Rattle.operator_console.specs.Deeds.{Deed, Told, Rolled, Tests, IsDeed, deed_entries, deed_fronts, deed_rolls, deed_text}
 use Rattle.operator_console.specs.Transcript.{Done, AreDone, IsStop, NeverFall, bytes_of, text_of}
 
 -- what passed a test of the desk before passes it now
@@ -62,6 +66,32 @@ IsHandled (Err ends.NoMemory) tests was_full number line old new taken taken_now
     (EntersNone old new × Appends taken taken_now [])
     ⊎ ((¬ (line ≡ codes "stop")) × IsRollCut tests number line old new taken taken_now)
 IsHandled (Err _) tests was_full number line old new taken taken_now = ⊥
+
+-- What entering a call and writing the line of its reply comes to.
+abbrev pub IsToldCall : Result (Unit {0}) ConsoleEnd → (was_full : Type 0) → Call → (old new : DeskState)
+    → (taken taken_now : Option (List ℕ)) → Type 0
+IsToldCall (Ok _) was_full call old new taken taken_now =
+    (reply : Reply) × Enters call reply old new × Appends taken taken_now (reply_line reply)
+IsToldCall (Err ends.WriteFault) was_full call old new taken taken_now =
+    (reply : Reply) × Enters call reply old new × AppendsFront taken taken_now (reply_line reply)
+IsToldCall (Err ends.BookFull) was_full call old new taken taken_now =
+    was_full × EntersNone old new × Appends taken taken_now []
+IsToldCall (Err _) was_full call old new taken taken_now = ⊥
+
+-- The goals of all inverters were told, one after another.
+pub record AreTold (may_tell : GoalTest) (old new : DeskState) (told : List Told) : Type 0 where
+  pub asked : map (λ one. one.inverter) told ≡ range_with_len 0 old.inverters
+  pub goals : All (λ one. may_tell (length old.made) one.front one.inverter one.goal) told
+  pub fronts : NeverFall old.front (map (λ one. one.front) told) new.front
+
+-- the lines of goals that were told
+abbrev pub goals_text : List Told → List ℕ
+goals_text told = flat_map (λ one. goal_line one.inverter one.goal) told
+
+-- What an end of handling says of the writes: one failed, or none.
+abbrev pub at_writes : Result (Unit {0}) ConsoleEnd → Result (Unit {0}) (Unit {0})
+at_writes (Err ends.WriteFault) = Err tt
+at_writes _ = Ok tt
 
 -- The bytes read so far are whole lines, which were done, and the begin of a line that is held.
 pub record IsTaking (tests : Tests) (old new : DeskState) (taken taken_now : Option (List ℕ)) (read : List ℕ)

@@ -8,6 +8,9 @@ mod comments;
 mod console;
 mod finding;
 mod order;
+mod rolled;
+mod status;
+mod writing;
 
 pub use console::{ConsoleEnd};
 pub use order::{Order, order_of};
