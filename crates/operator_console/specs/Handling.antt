@@ -4,15 +4,16 @@ use Rattle.std.specs.List.{flat_map, range_with_len}
 use Rattle.std.specs.Io.KnownBytes.{Appends}
 use Rattle.std.specs.Str.Iter.{LacksByte}
 use Rattle.plant_book.specs.declared.call.Call.{Call}
+use Rattle.plant_book.specs.declared.call.Call.TheVariants as calls
 use Rattle.plant_book.specs.declared.call.Reply.{Reply}
 use Rattle.plant_book.specs.Part.{PartRecord}
-use Rattle.ledger_desk.specs.Desk.{DeskState, GoalTest, RollTest, LifeTest, GoalsLast, RollsLast, LivesLast, Enters, EntersNone}
+use Rattle.ledger_desk.specs.Desk.{DeskState, GoalTest, RollTest, LifeTest, GoalsLast, RollsLast, LivesLast, AddsRoll, Enters, EntersNone}
 use Rattle.stream_io.specs.Streams.{AppendsFront}
 use Rattle.operator_console.specs.declared.order.Order.{Order}
 use Rattle.operator_console.specs.declared.console.ConsoleEnd.{ConsoleEnd}
 use Rattle.operator_console.specs.declared.console.ConsoleEnd.TheVariants as ends
 use Rattle.operator_console.specs.Orders.{IsOrder, call_of}
-use Rattle.operator_console.specs.Comments.{reply_line, goal_line}
+use Rattle.operator_console.specs.Comments.{full_line, goal_line, reply_line, rolled_text}
 use Rattle.operator_console.specs.Deeds.{Deed, Told, Rolled, Tests, IsDeed, deed_entries, deed_fronts, deed_rolls, deed_text}
 use Rattle.operator_console.specs.Transcript.{Done, AreDone, IsStop, NeverFall, bytes_of, text_of}
 
@@ -78,15 +79,62 @@ IsToldCall (Err ends.BookFull) was_full call old new taken taken_now =
     was_full × EntersNone old new × Appends taken taken_now []
 IsToldCall (Err _) was_full call old new taken taken_now = ⊥
 
--- The goals of all inverters were told, one after another.
-pub record AreTold (may_tell : GoalTest) (old new : DeskState) (told : List Told) : Type 0 where
-  pub asked : map (λ one. one.inverter) told ≡ range_with_len 0 old.inverters
+-- The goals of so many inverters were told, one after another.
+pub record AreTold (may_tell : GoalTest) (count : ℕ) (old new : DeskState) (told : List Told) : Type 0 where
+  pub asked : map (λ one. one.inverter) told ≡ range_with_len 0 count
   pub goals : All (λ one. may_tell (length old.made) one.front one.inverter one.goal) told
   pub fronts : NeverFall old.front (map (λ one. one.front) told) new.front
 
 -- the lines of goals that were told
 abbrev pub goals_text : List Told → List ℕ
 goals_text told = flat_map (λ one. goal_line one.inverter one.goal) told
+
+-- What a status comes to: after the entry of its Tick the goals of all inverters are told.
+pub record IsStatus (may_tell : GoalTest) (at : ℕ) (old new : DeskState) (text : List ℕ) : Type 0 where
+  pub reply : Reply
+  pub ticked : DeskState
+  pub enters : Enters (calls.Tick at) reply old ticked
+  pub none : EntersNone ticked new
+  pub told : List Told
+  pub are : AreTold may_tell old.inverters ticked new told
+  pub text_is : text ≡ reply_line reply ++ goals_text told
+
+abbrev pub IsShown : Result (Unit {0}) ConsoleEnd → GoalTest → (was_full : Type 0) → (at : ℕ) → (old new : DeskState)
+    → (taken taken_now : Option (List ℕ)) → Type 0
+IsShown (Ok _) may_tell was_full at old new taken taken_now =
+    (text : List ℕ) × IsStatus may_tell at old new text × Appends taken taken_now text
+IsShown (Err ends.WriteFault) may_tell was_full at old new taken taken_now =
+    (text : List ℕ) × IsStatus may_tell at old new text × AppendsFront taken taken_now text
+IsShown (Err ends.BookFull) may_tell was_full at old new taken taken_now =
+    was_full × EntersNone old new × Appends taken taken_now []
+IsShown (Err _) may_tell was_full at old new taken taken_now = ⊥
+
+-- What a stop comes to.
+abbrev pub IsStopped : Result (Unit {0}) ConsoleEnd → (was_full : Type 0) → (at : ℕ) → (old new : DeskState)
+    → (taken taken_now : Option (List ℕ)) → Type 0
+IsStopped (Ok _) was_full at old new taken taken_now = ⊥
+IsStopped (Err ends.Stopped) was_full at old new taken taken_now =
+    IsToldCall (Ok tt) was_full (calls.Stop at) old new taken taken_now
+IsStopped (Err end) was_full at old new taken taken_now =
+    IsToldCall (Err end) was_full (calls.Stop at) old new taken taken_now
+
+-- What a roll comes to: a book was rolled, or the life is full.
+abbrev pub IsRoll : RollTest → LifeTest → (old new : DeskState) → (text : List ℕ) → Type 0
+IsRoll ended full_life old new text =
+    ((book : PartRecord) × AddsRoll old new × ended (length new.rolls) book × (text ≡ rolled_text book))
+    ⊎ ((calls : ℕ) × EntersNone old new × full_life calls × (text ≡ full_line))
+
+abbrev pub IsRolled : Result (Unit {0}) ConsoleEnd → RollTest → LifeTest → (old new : DeskState)
+    → (taken taken_now : Option (List ℕ)) → Type 0
+IsRolled (Ok _) ended full_life old new taken taken_now =
+    (text : List ℕ) × IsRoll ended full_life old new text × Appends taken taken_now text
+IsRolled (Err ends.WriteFault) ended full_life old new taken taken_now =
+    (text : List ℕ) × IsRoll ended full_life old new text × AppendsFront taken taken_now text
+IsRolled (Err ends.NoMemory) ended full_life old new taken taken_now =
+    (EntersNone old new × Appends taken taken_now [])
+    ⊎ ((book : PartRecord) × AddsRoll old new × ended (length new.rolls) book
+    × AppendsFront taken taken_now (rolled_text book))
+IsRolled (Err _) ended full_life old new taken taken_now = ⊥
 
 -- What an end of handling says of the writes: one failed, or none.
 abbrev pub at_writes : Result (Unit {0}) ConsoleEnd → Result (Unit {0}) (Unit {0})

@@ -8,6 +8,8 @@ mod comments;
 mod console;
 mod finding;
 mod order;
+mod lines;
+mod orders;
 mod rolled;
 mod status;
 mod writing;

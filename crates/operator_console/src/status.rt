@@ -21,7 +21,7 @@ pub(crate) fn status_text<D: Desk>(reply: &Reply, desk: &mut D, inverters: u32) 
     requires few { inverters ≤ 64 }
     requires of_desk { inverters ≡ (D.state desk.old).inverters }
     ensures told { (told : List Told) × (result ≡ reply_line reply.now ++ goals_text told)
-        × AreTold (D.may_tell desk.new) (D.state desk.old) (D.state desk.new) told }
+        × AreTold (D.may_tell desk.new) inverters (D.state desk.old) (D.state desk.new) told }
     ensures none { EntersNone (D.state desk.old) (D.state desk.new) }
     ensures last { TestsLast (D.may_tell desk.old) (D.may_tell desk.new) (D.was_full desk.old) (D.was_full desk.new)
         (D.ended desk.old) (D.ended desk.new) (D.was_full_life desk.old) (D.was_full_life desk.new) }

@@ -1,0 +1,60 @@
+//! The lines of an input, as its bytes come.
+ghost use Rattle.std.specs.Prelude.{◌≡◌, ◌<◌, ◌≤◌, ◌+◌, ◌++◌, ◌∷◌, [], ◌^◌, ℕ, List, Option, IfErr, OnErr, OnOk, length};
+ghost use Rattle.std.specs.Str.Iter.{LacksByte};
+ghost use Rattle.world_traits.specs.Causes.{HasCause};
+ghost use Rattle.ledger_desk.specs.Desk.{DeskState};
+ghost use Rattle.operator_console.specs.Orders.{IsLine};
+ghost use Rattle.operator_console.specs.Transcript.{IsHeld};
+ghost use Rattle.operator_console.specs.Deeds.{tests_of};
+ghost use Rattle.operator_console.specs.Handling.{IsHandled, IsTaking, TestsLast, at_writes};
+
+use crate::comments::bad_text;
+use crate::console::ConsoleEnd;
+use crate::finding::parts_at;
+use crate::order::order_of;
+use crate::orders::follow_order;
+use crate::writing::write;
+use ledger_desk::Desk;
+use std::alloc::Global;
+use world_traits::{Clock, Sink};
+
+/// The lines of an input so far.
+#[derive(Drop)]
+pub(crate) struct Lines {
+    /// How many inverters orders may name.
+    pub(crate) inverters: u32,
+    /// How many lines there were.
+    pub(crate) number: u32,
+    /// The begin of the line that isn't whole yet.
+    pub(crate) held: Vec<u8>,
+}
+
+/// Does the line of this number.
+pub(crate) fn follow_line<D: Desk, O: Sink, K: Clock>(
+    alloc: Global,
+    line: &[u8],
+    number: u32,
+    inverters: u32,
+    desk: &mut D,
+    out: &mut O,
+    clock: &K,
+) -> Result<(), ConsoleEnd>
+    requires few { inverters ≤ 64 }
+    requires of_desk { inverters ≡ (D.state desk.old).inverters }
+    ensures handled { IsHandled result (tests_of (K.may_give clock.now) (D.may_tell desk.new) (D.ended desk.new)
+        (D.was_full_life desk.new)) (D.was_full desk.new) number line.now (D.state desk.old) (D.state desk.new)
+        (O.taken out.old) (O.taken out.new) }
+    ensures last { TestsLast (D.may_tell desk.old) (D.may_tell desk.new) (D.was_full desk.old) (D.was_full desk.new)
+        (D.ended desk.old) (D.ended desk.new) (D.was_full_life desk.old) (D.was_full_life desk.new) }
+    ensures kept { D.kept desk.new ≡ D.kept desk.old }
+    ensures cause { HasCause (O.faults out.old) (O.faults out.new) (at_writes result) }
+    ensures stops { O.faults out.old ≡ 0 → O.late out.new ≡ O.late out.old }
+{
+    if line.is_empty() {
+        return Ok(());
+    }
+    match order_of(line, inverters) {
+        Some(order) => follow_order(alloc, order, inverters, desk, out, clock),
+        None => write(out, bad_text(number).as_slice()),
+    }
+}
