@@ -1,1 +1,4 @@
 pub mod Spelling
+pub mod Texts
+pub mod Fronts
+pub mod Telling
