@@ -2,3 +2,4 @@ pub mod Spelling
 pub mod Texts
 pub mod Fronts
 pub mod Telling
+pub mod Handled

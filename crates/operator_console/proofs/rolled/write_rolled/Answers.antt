@@ -17,16 +17,18 @@ returns-in_err-write_head-clause-front g c =
 pub returns-in_err-write_entries-clause-front : goal.returns-in_err-write_entries-clause-front
 returns-in_err-write_entries-clause-front g c =
     let head = head_before c.args.book.now.site c.args.book.now.start c.args.book.now.carry in
-    let entries = c.book.inside.entries.items in
+    let entries = c.deref.result.now in
     let P : PartRecord → Type 0 = λ b. AppendsFront (g.O.Sink.taken c.args.out.now) (g.O.Sink.taken c.write_entries.new.out) (head ++ flat_map texts.entry_text b.entries ++ texts.roll_text) in
+    let Q : List Entry → Type 0 = λ xs. AppendsFront (g.O.Sink.taken c.args.out.now) (g.O.Sink.taken c.write_entries.new.out) (head ++ flat_map texts.entry_text xs ++ texts.roll_text) in
     on_err c.from_residual-in_err-write_entries.result _
-    (subst P c.book.view_is (front_first _ _ _ texts.roll_text (front_second _ _ _ head (flat_map texts.entry_text entries) c.in_ok-write_head.ensures.all c.in_err-write_entries.ensures.front)))
+    (subst P c.book.view_is (subst Q c.deref.ensures.value (front_first _ _ _ texts.roll_text (front_second _ _ _ head (flat_map texts.entry_text entries) c.in_ok-write_head.ensures.all c.in_err-write_entries.ensures.front))))
 
 pub returns-clause-front : goal.returns-clause-front
 returns-clause-front g c =
     let head = head_before c.args.book.now.site c.args.book.now.start c.args.book.now.carry in
-    let entries = c.book.inside.entries.items in
+    let entries = c.deref.result.now in
     let P : PartRecord → Type 0 = λ b. OnErr c.write_roll.result (AppendsFront (g.O.Sink.taken c.args.out.now) (g.O.Sink.taken c.write_roll.new.out) (head ++ flat_map texts.entry_text b.entries ++ texts.roll_text)) in
-    subst P c.book.view_is (on_err_more c.write_roll.result _ _
+    let Q : List Entry → Type 0 = λ xs. OnErr c.write_roll.result (AppendsFront (g.O.Sink.taken c.args.out.now) (g.O.Sink.taken c.write_roll.new.out) (head ++ flat_map texts.entry_text xs ++ texts.roll_text)) in
+    subst P c.book.view_is (subst Q c.deref.ensures.value (on_err_more c.write_roll.result _ _
     (λ front. front_second _ _ _ _ texts.roll_text (Appends-trans _ _ _ head (flat_map texts.entry_text entries) c.in_ok-write_head.ensures.all c.in_ok-write_entries.ensures.all) front)
-    c.write_roll.ensures.front)
+    c.write_roll.ensures.front))
