@@ -3,3 +3,5 @@ pub mod Texts
 pub mod Fronts
 pub mod Telling
 pub mod Handled
+pub mod Done
+pub mod Taking

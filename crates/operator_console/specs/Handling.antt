@@ -12,7 +12,7 @@ use Rattle.stream_io.specs.Streams.{AppendsFront}
 use Rattle.operator_console.specs.declared.order.Order.{Order}
 use Rattle.operator_console.specs.declared.console.ConsoleEnd.{ConsoleEnd}
 use Rattle.operator_console.specs.declared.console.ConsoleEnd.TheVariants as ends
-use Rattle.operator_console.specs.Orders.{IsOrder, call_of}
+use Rattle.operator_console.specs.Orders.{EndsInReturn, IsOrder, call_of}
 use Rattle.operator_console.specs.Comments.{full_line, goal_line, reply_line, rolled_text}
 use Rattle.operator_console.specs.Deeds.{Deed, Told, Rolled, Tests, IsDeed, deed_entries, deed_fronts, deed_rolls, deed_text}
 use Rattle.operator_console.specs.Transcript.{Done, AreDone, IsStop, NeverFall, bytes_of, text_of}
@@ -140,6 +140,10 @@ IsRolled (Err _) ended full_life old new taken taken_now = ⊥
 abbrev pub at_writes : Result (Unit {0}) ConsoleEnd → Result (Unit {0}) (Unit {0})
 at_writes (Err ends.WriteFault) = Err tt
 at_writes _ = Ok tt
+
+-- The bytes before a line feed are a line, behind which a CR stands or not.
+abbrev pub HasReturn : (bytes line : List ℕ) → Type 0
+HasReturn bytes line = (bytes ≡ line ++ 13 ∷ []) ⊎ ((bytes ≡ line) × ¬ EndsInReturn line)
 
 -- The bytes read so far are whole lines, which were done, and the begin of a line that is held.
 pub record IsTaking (tests : Tests) (old new : DeskState) (taken taken_now : Option (List ℕ)) (read : List ℕ)

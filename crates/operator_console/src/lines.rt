@@ -6,7 +6,7 @@ ghost use Rattle.ledger_desk.specs.Desk.{DeskState};
 ghost use Rattle.operator_console.specs.Orders.{IsLine};
 ghost use Rattle.operator_console.specs.Transcript.{IsHeld};
 ghost use Rattle.operator_console.specs.Deeds.{tests_of};
-ghost use Rattle.operator_console.specs.Handling.{IsHandled, IsTaking, TestsLast, at_writes};
+ghost use Rattle.operator_console.specs.Handling.{HasReturn, IsHandled, IsTaking, TestsLast, at_writes};
 
 use crate::comments::bad_text;
 use crate::console::ConsoleEnd;
@@ -17,6 +17,9 @@ use crate::writing::write;
 use ledger_desk::Desk;
 use std::alloc::Global;
 use world_traits::{Clock, Sink};
+
+/// How many bytes the first room of a line takes.
+const HELD_MIN: usize = 4096;
 
 /// The lines of an input so far.
 #[derive(Drop)]
@@ -56,5 +59,32 @@ pub(crate) fn follow_line<D: Desk, O: Sink, K: Clock>(
     match order_of(line, inverters) {
         Some(order) => follow_order(alloc, order, inverters, desk, out, clock),
         None => write(out, bad_text(number).as_slice()),
+    }
+}
+
+/// Whether a line's end is CR LF: the line without the CR at its end, if there is one.
+fn without_return(bytes: &[u8]) -> &[u8]
+    ensures { HasReturn bytes.now result.now }
+{
+    match bytes {
+        [line @ .., b'\r'] => line,
+        _ => bytes,
+    }
+}
+
+impl Lines {
+    /// Takes more bytes of the line that isn't whole yet. Its room grows from a piece by doubling, and so is never more
+    /// than the bytes that are read at most.
+    fn hold(&mut self, more: &[u8]) -> Result<(), ConsoleEnd>
+        ensures held { OnOk result (self.new.held.items ≡ self.old.held.items ++ more.now) }
+        ensures number { self.new.number ≡ self.old.number }
+        ensures inverters { self.new.inverters ≡ self.old.inverters }
+        ensures failed { IfErr result (λ end. end ≡ ConsoleEnd.NoMemory) }
+    {
+        let grown = if self.held.capacity() == 0 { self.held.reserve(HELD_MIN) } else { Ok(()) };
+        if grown.is_err() || self.held.extend_from_slice(more).is_err() {
+            return Err(ConsoleEnd::NoMemory);
+        }
+        Ok(())
     }
 }

@@ -1,0 +1,259 @@
+-- Lines that are taken one after another, and how they end.
+use Rattle.std.proofs.Common.{◌≡◌, ℕ, ◌+◌, ◌≤◌, ◌<◌, List, [], ◌∷◌, ◌++◌, length, Option, refl, sym, ap, subst, ◌∙◌, arith, inl, inr, length-append, append_assoc}
+use Rattle.std.specs.Prelude.{◌⊎◌, Result, Ok, Err, codes}
+use Rattle.std.specs.Io.KnownBytes.{Appends}
+use Rattle.std.specs.Str.Iter.{LacksByte}
+use Rattle.std.proofs.KnownBytes.{Appends-nil, Appends-trans}
+use Rattle.std.proofs.lemmas.List.{append-nil}
+use Rattle.plant_book.specs.Part.{PartRecord}
+use Rattle.ledger_desk.specs.Desk.{DeskState, EntersNone}
+use Rattle.operator_console.specs.declared.order.Order.{Order}
+use Rattle.operator_console.specs.declared.console.ConsoleEnd.{ConsoleEnd}
+use Rattle.operator_console.specs.declared.console.ConsoleEnd.TheVariants as ends
+use Rattle.operator_console.specs.Orders.{IsLine, IsOrder}
+use Rattle.operator_console.specs.Deeds.{Deed, Rolled, Tests, deed_text}
+use Rattle.operator_console.specs.Transcript.{AreDone, AreTaken, Done, EndsSo, HasStop, IsHeld, IsOver, IsStop, bytes_of, done_text, text_of}
+use Rattle.operator_console.specs.Handling.{Does, IsCut, IsHandled, IsTaking, IsWhole}
+use Rattle.operator_console.proofs.Telling.{none_entered}
+use Rattle.operator_console.proofs.Done.{Lasts, are_later, are_more, are_none, flat_more, one_done, place_of}
+
+gains : (a b : Option (List ℕ)) (x y : List ℕ) → x ≡ y → Appends a b x → Appends a b y
+gains a b x y e gained = let P : List ℕ → Type 0 = λ t. Appends a b t in subst P e gained
+
+-- before the first line
+pub none_taken : (tests : Tests) (desk : DeskState) (told : Option (List ℕ)) → IsTaking tests desk desk told told [] 0 []
+none_taken tests desk told = record {
+  dones = [];
+  are = record {
+    each = λ before done behind is. absurd (omega (arith, ap length is, length-append before (done ∷ behind)));
+    made = sym (append-nil desk.made);
+    rolls = sym (append-nil desk.rolls);
+    fronts = omega arith;
+    inverters = refl;
+  };
+  whole = λ before done behind is. absurd (omega (arith, ap length is, length-append before (done ∷ behind)));
+  going = λ before done behind is. absurd (omega (arith, ap length is, length-append before (done ∷ behind)));
+  parts = refl;
+  one = λ k below. absurd (omega (arith, below));
+  count = refl;
+  written = Appends-nil told;
+}
+
+pub taking_later : (old new : Tests) (begun now : DeskState) (told told_now : Option (List ℕ)) (read : List ℕ) (number : ℕ) (held : List ℕ) → Lasts old new
+    → IsTaking old begun now told told_now read number held → IsTaking new begun now told told_now read number held
+taking_later old new begun now told told_now read number held last taking = record {
+  dones = taking.dones;
+  are = are_later old new begun now taking.dones last taking.are;
+  whole = taking.whole;
+  going = taking.going;
+  parts = taking.parts;
+  one = taking.one;
+  count = taking.count;
+  written = taking.written;
+}
+
+-- more bytes of a line
+pub taking_held : (tests : Tests) (begun now : DeskState) (told told_now : Option (List ℕ)) (read : List ℕ) (number : ℕ) (held more held_now : List ℕ)
+    → held_now ≡ held ++ more → LacksByte 10 held_now → IsTaking tests begun now told told_now read number held → IsTaking tests begun now told told_now (read ++ more) number held_now
+taking_held tests begun now told told_now read number held more held_now is lacks taking = record {
+  dones = taking.dones;
+  are = taking.are;
+  whole = taking.whole;
+  going = taking.going;
+  parts = ap (λ (l : List ℕ). l ++ more) taking.parts ∙ append_assoc (bytes_of taking.dones) held more ∙ ap (λ (l : List ℕ). bytes_of taking.dones ++ l) (sym is);
+  one = lacks;
+  count = taking.count;
+  written = taking.written;
+}
+
+-- the bytes and the text of one line more
+bytes_more : (read tail : List ℕ) (dones : List Done) (done : Done) (held behind : List ℕ) → read ≡ bytes_of dones ++ held → held ++ tail ≡ (done.line ++ done.end) ++ behind
+    → read ++ tail ≡ bytes_of (dones ++ done ∷ []) ++ behind
+bytes_more read tail dones done held behind parts next =
+    ap (λ (l : List ℕ). l ++ tail) parts ∙ append_assoc (bytes_of dones) held tail ∙ ap (λ (l : List ℕ). bytes_of dones ++ l) next
+    ∙ sym (append_assoc (bytes_of dones) (done.line ++ done.end) behind)
+    ∙ ap (λ (l : List ℕ). l ++ behind) (sym (flat_more (λ (d : Done). d.line ++ d.end) dones done))
+
+text_whole : (a b c : Option (List ℕ)) (dones : List Done) (done : Done) → Appends a b (text_of dones) → Appends b c (done_text done) → Appends a c (text_of (dones ++ done ∷ []))
+text_whole a b c dones done before now = gains a c _ _ (sym (flat_more done_text dones done)) (Appends-trans a b c (text_of dones) (done_text done) before now)
+
+-- a whole line was done, and goes on
+pub taking_more : (tests : Tests) (begun mid now : DeskState) (told told_mid told_now : Option (List ℕ)) (read : List ℕ) (number : ℕ) (held line end tail : List ℕ)
+    → IsTaking tests begun mid told told_mid read number held → IsLine line end → ¬ (end ≡ []) → held ++ tail ≡ line ++ end → ¬ (line ≡ codes "stop")
+    → IsWhole tests (number + 1) line mid now told_mid told_now → IsTaking tests begun now told told_now (read ++ tail) (number + 1) []
+taking_more tests begun mid now told told_mid told_now read number held line end tail taking is_line ended next goes (deed, does, gained) =
+    let done = one_done (number + 1) line end deed in
+    let counted : number + 1 ≡ length taking.dones + 1 = ap (λ (n : ℕ). n + 1) taking.count in
+    record {
+      dones = taking.dones ++ done ∷ [];
+      are = are_more tests begun mid now taking.dones done taking.are does counted is_line;
+      whole = λ before one behind is. elim (place_of taking.dones done before one behind is) [
+        | inl last ↦ λ none. ended (ap (λ (d : Done). d.end) (sym last.2) ∙ none)
+        | inr earlier ↦ taking.whole before one earlier.0 earlier.2
+      ];
+      going = λ before one behind is. elim (place_of taking.dones done before one behind is) [
+        | inl last ↦ λ stop. goes (ap (λ (d : Done). d.line) (sym last.2) ∙ stop)
+        | inr earlier ↦ taking.going before one earlier.0 earlier.2
+      ];
+      parts = bytes_more read tail taking.dones done held [] taking.parts (next ∙ sym (append-nil (line ++ end)));
+      one = λ k below. absurd (omega (arith, below));
+      count = counted ∙ sym (length-append taking.dones (done ∷ []));
+      written = text_whole told told_mid told_now taking.dones done taking.written gained;
+    }
+
+-- how it ends
+
+no_stop : (dones : List Done) → ((before : List Done) (done : Done) (behind : List Done) → dones ≡ before ++ done ∷ behind → ¬ IsStop done) → ¬ HasStop dones
+no_stop dones going = λ (last, ends_with, stop). going ends_with.before last [] ends_with.is stop
+
+-- the lines so far, and a rest
+rest_taken : (tests : Tests) (begun now : DeskState) (told told_now : Option (List ℕ)) (read tail : List ℕ) (number : ℕ) (held : List ℕ) (left : Option (List ℕ))
+    → (taking : IsTaking tests begun now told told_now read number held) → AreTaken (read ++ tail) (held ++ tail) taking.dones left
+rest_taken tests begun now told told_now read tail number held left taking = record {
+  parts = ap (λ (l : List ℕ). l ++ tail) taking.parts ∙ append_assoc (bytes_of taking.dones) held tail;
+  stops = λ before done behind is stop. absurd (taking.going before done behind is stop);
+  last = λ before done behind is none. absurd (taking.whole before done behind is none);
+}
+
+-- the lines so far and one more, and a rest
+last_taken : (tests : Tests) (begun now : DeskState) (told told_now : Option (List ℕ)) (read tail : List ℕ) (number : ℕ) (held behind : List ℕ) (left : Option (List ℕ)) (done : Done)
+    → (taking : IsTaking tests begun now told told_now read number held) → held ++ tail ≡ (done.line ++ done.end) ++ behind → (done.end ≡ [] → (behind ≡ []) × IsOver (read ++ tail) left)
+    → AreTaken (read ++ tail) behind (taking.dones ++ done ∷ []) left
+last_taken tests begun now told told_now read tail number held behind left done taking next over = record {
+  parts = bytes_more read tail taking.dones done held behind taking.parts next;
+  stops = λ before one more is stop. elim (place_of taking.dones done before one more is) [
+    | inl last ↦ last.0
+    | inr earlier ↦ absurd (taking.going before one earlier.0 earlier.2 stop)
+  ];
+  last = λ before one more is none. elim (place_of taking.dones done before one more is) [
+    | inl last ↦ let so = over (ap (λ (d : Done). d.end) (sym last.2) ∙ none) in (last.0, so.0, so.1)
+    | inr earlier ↦ absurd (taking.whole before one earlier.0 earlier.2 none)
+  ];
+}
+
+-- no stop among the lines and one more
+no_stop_more : (tests : Tests) (begun now : DeskState) (told told_now : Option (List ℕ)) (read : List ℕ) (number : ℕ) (held : List ℕ) (done : Done)
+    → (taking : IsTaking tests begun now told told_now read number held) → ¬ (done.line ≡ codes "stop") → ¬ HasStop (taking.dones ++ done ∷ [])
+no_stop_more tests begun now told told_now read number held done taking goes = no_stop _ (λ before one behind is. elim (place_of taking.dones done before one behind is) [
+  | inl last ↦ λ stop. goes (ap (λ (d : Done). d.line) (sym last.2) ∙ stop)
+  | inr earlier ↦ taking.going before one earlier.0 earlier.2
+])
+
+nothing_gained : (a b c : Option (List ℕ)) (text : List ℕ) → Appends a b text → Appends b c [] → Appends a c text
+nothing_gained a b c text before now = gains a c _ _ (append-nil text) (Appends-trans a b c text [] before now)
+
+-- a line was done, and the console ends by it, or at it
+pub taking_ends : (ended : ConsoleEnd) (tests : Tests) (was_full : Type 0) (begun mid now : DeskState) (told told_mid told_now : Option (List ℕ)) (read : List ℕ) (number : ℕ) (held line end tail behind : List ℕ)
+    (left : Option (List ℕ)) → IsTaking tests begun mid told told_mid read number held → IsLine line end → held ++ tail ≡ (line ++ end) ++ behind
+    → (end ≡ [] → (behind ≡ []) × IsOver (read ++ tail) left) → IsHandled (Err ended) tests was_full (number + 1) line mid now told_mid told_now
+    → IsHeld ended tests was_full begun now (read ++ tail) left told told_now
+taking_ends ends.Ended tests was_full begun mid now told told_mid told_now read number held line end tail behind left taking is_line next over handled = absurd handled
+taking_ends ends.ReadFault tests was_full begun mid now told told_mid told_now read number held line end tail behind left taking is_line next over handled = absurd handled
+taking_ends ends.Stopped tests was_full begun mid now told told_mid told_now read number held line end tail behind left taking is_line next over (stop, (deed, does, gained)) =
+    let done = one_done (number + 1) line end deed in
+    record {
+      dones = taking.dones ++ done ∷ [];
+      rest = behind;
+      lines = last_taken tests begun mid told told_mid read tail number held behind left done taking next over;
+      are = are_more tests begun mid now taking.dones done taking.are does (ap (λ (n : ℕ). n + 1) taking.count) is_line;
+      so = ((done, record { before = taking.dones; is = refl }, stop), text_whole told told_mid told_now taking.dones done taking.written gained);
+    }
+taking_ends ends.WriteFault tests was_full begun mid now told told_mid told_now read number held line end tail behind left taking is_line next over (deed, does, (front, rest, parts, gained)) =
+    let done = one_done (number + 1) line end deed in
+    record {
+      dones = taking.dones ++ done ∷ [];
+      rest = behind;
+      lines = last_taken tests begun mid told told_mid read tail number held behind left done taking next over;
+      are = are_more tests begun mid now taking.dones done taking.are does (ap (λ (n : ℕ). n + 1) taking.count) is_line;
+      so = (done, record { before = taking.dones; is = refl; front = front; behind = rest; parts = parts; written = Appends-trans told told_mid told_now (text_of taking.dones) front taking.written gained });
+    }
+taking_ends ends.BookFull tests was_full begun mid now told told_mid told_now read number held line end tail behind left taking is_line next over (full, none, gained, (order, spelled, calls)) =
+    let P : ℕ → Type 0 = λ n. IsOrder n line order in
+    record {
+      dones = taking.dones;
+      rest = held ++ tail;
+      lines = rest_taken tests begun mid told told_mid read tail number held left taking;
+      are = are_none tests begun mid now taking.dones taking.are none;
+      so = (full, record { line = line; end = end; behind = behind; parts = next; is_line = is_line; last = over; order = order; spelled = subst P taking.are.inverters spelled; calls = calls },
+          no_stop taking.dones taking.going, nothing_gained told told_mid told_now (text_of taking.dones) taking.written gained);
+    }
+taking_ends ends.NoMemory tests was_full begun mid now told told_mid told_now read number held line end tail behind left taking is_line next over (inl (none, gained)) = record {
+  dones = taking.dones;
+  rest = held ++ tail;
+  lines = rest_taken tests begun mid told told_mid read tail number held left taking;
+  are = are_none tests begun mid now taking.dones taking.are none;
+  so = (no_stop taking.dones taking.going, inl (nothing_gained told told_mid told_now (text_of taking.dones) taking.written gained));
+}
+taking_ends ends.NoMemory tests was_full begun mid now told told_mid told_now read number held line end tail behind left taking is_line next over (inr (goes, (place, book, does, (front, rest, parts, gained)))) =
+    let done = one_done (number + 1) line end (Rolled place book) in
+    record {
+      dones = taking.dones ++ done ∷ [];
+      rest = behind;
+      lines = last_taken tests begun mid told told_mid read tail number held behind left done taking next over;
+      are = are_more tests begun mid now taking.dones done taking.are does (ap (λ (n : ℕ). n + 1) taking.count) is_line;
+      so = (no_stop_more tests begun mid told told_mid read number held done taking goes,
+          inr (done, record { before = taking.dones; is = refl; front = front; behind = rest; parts = parts; written = Appends-trans told told_mid told_now (text_of taking.dones) front taking.written gained }, place, book, refl));
+    }
+
+-- memory ran out for the begin of a line
+pub taking_starved : (tests : Tests) (was_full : Type 0) (begun now : DeskState) (told told_now : Option (List ℕ)) (read tail : List ℕ) (number : ℕ) (held : List ℕ) (left : Option (List ℕ))
+    → IsTaking tests begun now told told_now read number held → IsHeld ends.NoMemory tests was_full begun now (read ++ tail) left told told_now
+taking_starved tests was_full begun now told told_now read tail number held left taking = record {
+  dones = taking.dones;
+  rest = held ++ tail;
+  lines = rest_taken tests begun now told told_now read tail number held left taking;
+  are = taking.are;
+  so = (no_stop taking.dones taking.going, inl taking.written);
+}
+
+-- a read failed
+pub taking_fails : (tests : Tests) (was_full : Type 0) (begun now : DeskState) (told told_now : Option (List ℕ)) (read : List ℕ) (number : ℕ) (held : List ℕ) (left : Option (List ℕ))
+    → IsTaking tests begun now told told_now read number held → IsHeld ends.ReadFault tests was_full begun now read left told told_now
+taking_fails tests was_full begun now told told_now read number held left taking = record {
+  dones = taking.dones;
+  rest = held;
+  lines = record {
+    parts = taking.parts;
+    stops = λ before done behind is stop. absurd (taking.going before done behind is stop);
+    last = λ before done behind is none. absurd (taking.whole before done behind is none);
+  };
+  are = taking.are;
+  so = (taking.one, no_stop taking.dones taking.going, taking.written);
+}
+
+-- nothing is held where the bytes are over
+pub taking_over : (tests : Tests) (was_full : Type 0) (begun now : DeskState) (told told_now : Option (List ℕ)) (read : List ℕ) (number : ℕ) (held : List ℕ) (left : Option (List ℕ))
+    → held ≡ [] → IsOver read left → IsTaking tests begun now told told_now read number held → IsHeld ends.Ended tests was_full begun now read left told told_now
+taking_over tests was_full begun now told told_now read number held left none over taking = record {
+  dones = taking.dones;
+  rest = held;
+  lines = record {
+    parts = taking.parts;
+    stops = λ before done behind is stop. absurd (taking.going before done behind is stop);
+    last = λ before done behind is no_end. absurd (taking.whole before done behind is no_end);
+  };
+  are = taking.are;
+  so = (over, none, no_stop taking.dones taking.going, taking.written);
+}
+
+-- the last line has no end
+pub taking_last : (tests : Tests) (was_full : Type 0) (begun mid now : DeskState) (told told_mid told_now : Option (List ℕ)) (read : List ℕ) (number : ℕ) (held : List ℕ) (left : Option (List ℕ))
+    → ¬ (held ≡ []) → IsOver read left → IsTaking tests begun mid told told_mid read number held → ¬ (held ≡ codes "stop")
+    → IsWhole tests (number + 1) held mid now told_mid told_now → IsHeld ends.Ended tests was_full begun now read left told told_now
+taking_last tests was_full begun mid now told told_mid told_now read number held left some over taking goes (deed, does, gained) =
+    let done = one_done (number + 1) held [] deed in
+    let next : held ++ [] ≡ (held ++ []) ++ [] = sym (append-nil (held ++ [])) in
+    let O : List ℕ → Type 0 = λ l. IsOver l left in
+    let H : List ℕ → Type 0 = λ l. AreTaken l [] (taking.dones ++ done ∷ []) left in
+    record {
+      dones = taking.dones ++ done ∷ [];
+      rest = [];
+      lines = subst H (append-nil read) (last_taken tests begun mid told told_mid read [] number held [] left done taking next (λ e. (refl, subst O (sym (append-nil read)) over)));
+      are = are_more tests begun mid now taking.dones done taking.are does (ap (λ (n : ℕ). n + 1) taking.count) (record { one = taking.one; ended = inr (inr (refl, some)) });
+      so = (over, refl, no_stop_more tests begun mid told told_mid read number held done taking goes, text_whole told told_mid told_now taking.dones done taking.written gained);
+    }
+
+-- a desk keeps its inverters over a line that was done
+pub handled_inverters : (u : Unit {0}) (tests : Tests) (was_full : Type 0) (number : ℕ) (line : List ℕ) (old new : DeskState) (taken taken_now : Option (List ℕ))
+    → IsHandled (Ok u) tests was_full number line old new taken taken_now → new.inverters ≡ old.inverters
+handled_inverters u tests was_full number line old new taken taken_now (goes, (deed, does, gained)) = does.inverters
