@@ -15,8 +15,8 @@ use Rattle.ledger_desk.specs.Desk.{DeskState, AddsRoll, Enters, EntersNone, Goal
 use Rattle.stream_io.specs.Streams.{AppendsFront}
 use Rattle.operator_console.specs.declared.order.Order.{Order}
 use Rattle.operator_console.specs.declared.order.Order.TheVariants as orders
-use Rattle.operator_console.specs.declared.console.ConsoleEnd.{ConsoleEnd}
-use Rattle.operator_console.specs.declared.console.ConsoleEnd.TheVariants as ends
+use Rattle.operator_console.specs.declared.session.ConsoleEnd.{ConsoleEnd}
+use Rattle.operator_console.specs.declared.session.ConsoleEnd.TheVariants as ends
 use Rattle.operator_console.specs.Orders.{IsOrder, asked_by, call_of, order_line}
 use Rattle.operator_console.specs.Comments.{bad_line, full_line, reply_line, rolled_text}
 use Rattle.operator_console.specs.Deeds.{Deed, Entered, LifeFull, Passed, Refused, Rolled, Tests, Told, deed_text}

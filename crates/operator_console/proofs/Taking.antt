@@ -8,8 +8,8 @@ use Rattle.std.proofs.lemmas.List.{append-nil}
 use Rattle.plant_book.specs.Part.{PartRecord}
 use Rattle.ledger_desk.specs.Desk.{DeskState, EntersNone}
 use Rattle.operator_console.specs.declared.order.Order.{Order}
-use Rattle.operator_console.specs.declared.console.ConsoleEnd.{ConsoleEnd}
-use Rattle.operator_console.specs.declared.console.ConsoleEnd.TheVariants as ends
+use Rattle.operator_console.specs.declared.session.ConsoleEnd.{ConsoleEnd}
+use Rattle.operator_console.specs.declared.session.ConsoleEnd.TheVariants as ends
 use Rattle.operator_console.specs.Orders.{IsLine, IsOrder}
 use Rattle.operator_console.specs.Deeds.{Deed, Rolled, Tests, deed_text}
 use Rattle.operator_console.specs.Transcript.{AreDone, AreTaken, Done, EndsSo, HasStop, IsHeld, IsOver, IsStop, bytes_of, done_text, text_of}

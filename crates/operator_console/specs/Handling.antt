@@ -10,8 +10,8 @@ use Rattle.plant_book.specs.Part.{PartRecord}
 use Rattle.ledger_desk.specs.Desk.{DeskState, GoalTest, RollTest, LifeTest, GoalsLast, RollsLast, LivesLast, AddsRoll, Enters, EntersNone}
 use Rattle.stream_io.specs.Streams.{AppendsFront}
 use Rattle.operator_console.specs.declared.order.Order.{Order}
-use Rattle.operator_console.specs.declared.console.ConsoleEnd.{ConsoleEnd}
-use Rattle.operator_console.specs.declared.console.ConsoleEnd.TheVariants as ends
+use Rattle.operator_console.specs.declared.session.ConsoleEnd.{ConsoleEnd}
+use Rattle.operator_console.specs.declared.session.ConsoleEnd.TheVariants as ends
 use Rattle.operator_console.specs.Orders.{EndsInReturn, IsOrder, call_of}
 use Rattle.operator_console.specs.Comments.{full_line, goal_line, reply_line, rolled_text}
 use Rattle.operator_console.specs.Deeds.{Deed, Told, Rolled, Tests, IsDeed, deed_entries, deed_fronts, deed_rolls, deed_text}
@@ -135,6 +135,16 @@ IsRolled (Err ends.NoMemory) ended full_life old new taken taken_now =
     ⊎ ((book : PartRecord) × AddsRoll old new × ended (length new.rolls) book
     × AppendsFront taken taken_now (rolled_text book))
 IsRolled (Err _) ended full_life old new taken taken_now = ⊥
+
+-- how a console ends whose last step answers so: where nothing is left, at the end of its input
+abbrev pub end_of : Result (Unit {0}) ConsoleEnd → ConsoleEnd
+end_of (Ok _) = ends.Ended
+end_of (Err end) = end
+
+-- what it says of the reads
+abbrev pub at_reads : Result (Unit {0}) ConsoleEnd → Result (Unit {0}) (Unit {0})
+at_reads (Err ends.ReadFault) = Err tt
+at_reads _ = Ok tt
 
 -- What an end of handling says of the writes: one failed, or none.
 abbrev pub at_writes : Result (Unit {0}) ConsoleEnd → Result (Unit {0}) (Unit {0})

@@ -10,8 +10,8 @@ use Rattle.plant_book.specs.declared.book.Entry.{Entry}
 use Rattle.ledger_desk.specs.Desk.{DeskState, EntersNone, Enters}
 use Rattle.stream_io.specs.Streams.{AppendsFront}
 use Rattle.operator_console.specs.declared.order.Order.{Order}
-use Rattle.operator_console.specs.declared.console.ConsoleEnd.{ConsoleEnd}
-use Rattle.operator_console.specs.declared.console.ConsoleEnd.TheVariants as ends
+use Rattle.operator_console.specs.declared.session.ConsoleEnd.{ConsoleEnd}
+use Rattle.operator_console.specs.declared.session.ConsoleEnd.TheVariants as ends
 use Rattle.operator_console.specs.Orders.{IsOrder, IsLine, call_of, order_line}
 use Rattle.operator_console.specs.Deeds.{Deed, Rolled, Tests, IsDeed, deed_entries, deed_fronts, deed_rolls, deed_text}
 

@@ -5,14 +5,14 @@
 #![tactic(auto)]
 
 mod comments;
-mod console;
 mod finding;
-mod order;
 mod lines;
+mod order;
 mod orders;
 mod rolled;
+mod session;
 mod status;
 mod writing;
 
-pub use console::{ConsoleEnd};
 pub use order::{Order, order_of};
+pub use session::{CONSOLE_BYTES_MAX, ConsoleEnd, console};

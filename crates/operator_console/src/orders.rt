@@ -5,7 +5,7 @@ ghost use Rattle.operator_console.specs.Orders.{IsInRange, IsOrder};
 ghost use Rattle.operator_console.specs.Deeds.{tests_of};
 ghost use Rattle.operator_console.specs.Handling.{IsHandled, IsRolled, IsShown, IsStopped, TestsLast, at_writes};
 
-use crate::console::ConsoleEnd;
+use crate::session::ConsoleEnd;
 use crate::order::Order;
 use crate::rolled::write_rolled;
 use crate::status::status_text;

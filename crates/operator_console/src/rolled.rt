@@ -8,7 +8,7 @@ ghost use Rattle.script_text.specs.Text as texts;
 ghost use Rattle.operator_console.specs.Comments.{head_before, rolled_text};
 ghost use Rattle.operator_console.specs.Handling.{at_writes};
 
-use crate::console::ConsoleEnd;
+use crate::session::ConsoleEnd;
 use crate::writing::write;
 use limiter_num::NoMemory;
 use plant_book::{Book, Entry};

@@ -10,7 +10,7 @@ ghost use Rattle.ledger_desk.specs.Desk.{Enters, EntersNone};
 ghost use Rattle.operator_console.specs.Handling.{IsToldCall, TestsLast, at_writes};
 
 use crate::comments::reply_text;
-use crate::console::ConsoleEnd;
+use crate::session::ConsoleEnd;
 use ledger_desk::Desk;
 use plant_book::{Call, Reply};
 use stream_io::write_whole;
