@@ -5,3 +5,4 @@ pub mod Telling
 pub mod Handled
 pub mod Done
 pub mod Taking
+pub mod Ending

@@ -1,6 +1,6 @@
 -- Lines that are taken one after another, and how they end.
 use Rattle.std.proofs.Common.{◌≡◌, ℕ, ◌+◌, ◌≤◌, ◌<◌, List, [], ◌∷◌, ◌++◌, length, Option, refl, sym, ap, subst, ◌∙◌, arith, inl, inr, length-append, append_assoc}
-use Rattle.std.specs.Prelude.{◌⊎◌, Result, Ok, Err, codes}
+use Rattle.std.specs.Prelude.{◌⊎◌, IfErr, OnOk, Result, Ok, Err, codes}
 use Rattle.std.specs.Io.KnownBytes.{Appends}
 use Rattle.std.specs.Str.Iter.{LacksByte}
 use Rattle.std.proofs.KnownBytes.{Appends-nil, Appends-trans}
@@ -13,8 +13,10 @@ use Rattle.operator_console.specs.declared.session.ConsoleEnd.TheVariants as end
 use Rattle.operator_console.specs.Orders.{IsLine, IsOrder}
 use Rattle.operator_console.specs.Deeds.{Deed, Rolled, Tests, deed_text}
 use Rattle.operator_console.specs.Transcript.{AreDone, AreTaken, Done, EndsSo, HasStop, IsHeld, IsOver, IsStop, bytes_of, done_text, text_of}
-use Rattle.operator_console.specs.Handling.{Does, IsCut, IsHandled, IsTaking, IsWhole}
+use Rattle.operator_console.specs.Handling.{Does, HasReturn, IsCut, IsHandled, IsTaking, IsWhole, end_of}
 use Rattle.operator_console.proofs.Telling.{none_entered}
+use Rattle.operator_console.proofs.Ending as ending
+use Rattle.operator_console.proofs.Ending.{lacks_both}
 use Rattle.operator_console.proofs.Done.{Lasts, are_later, are_more, are_none, flat_more, one_done, place_of}
 
 gains : (a b : Option (List ℕ)) (x y : List ℕ) → x ≡ y → Appends a b x → Appends a b y
@@ -257,3 +259,88 @@ taking_last tests was_full begun mid now told told_mid told_now read number held
 pub handled_inverters : (u : Unit {0}) (tests : Tests) (was_full : Type 0) (number : ℕ) (line : List ℕ) (old new : DeskState) (taken taken_now : Option (List ℕ))
     → IsHandled (Ok u) tests was_full number line old new taken taken_now → new.inverters ≡ old.inverters
 handled_inverters u tests was_full number line old new taken taken_now (goes, (deed, does, gained)) = does.inverters
+
+-- a line that was held, with its line feed behind it
+pub held_goes_on : (r : Result (Unit {0}) ConsoleEnd) (old tests : Tests) (was_full : Type 0) (mid now : DeskState) (told_mid told_now : Option (List ℕ)) (number : ℕ) (held line held_now : List ℕ)
+    → Lasts old tests → HasReturn held line → held_now ≡ [] → IsHandled r tests was_full (number + 1) line mid now told_mid told_now
+    → OnOk r ((begun : DeskState) (told : Option (List ℕ)) (read : List ℕ) → IsTaking old begun mid told told_mid read number held
+    → IsTaking tests begun now told told_now (read ++ 10 ∷ []) (number + 1) held_now)
+held_goes_on (Ok u) old tests was_full mid now told_mid told_now number held line held_now last is empty handled = λ begun told read taking.
+    let end = ending.ends held line taking.one is in
+    let P : List ℕ → Type 0 = λ l. IsTaking tests begun now told told_now (read ++ 10 ∷ []) (number + 1) l in
+    subst P (sym empty) (taking_more tests begun mid now told told_mid told_now read number held line end.end (10 ∷ []) (taking_later old tests begun mid told told_mid read number held last taking)
+    end.is_line end.some end.next handled.0 handled.1)
+held_goes_on (Err e) old tests was_full mid now told_mid told_now number held line held_now last is empty handled = tt
+
+pub held_ends : (r : Result (Unit {0}) ConsoleEnd) (old tests : Tests) (was_full : Type 0) (mid now : DeskState) (told_mid told_now : Option (List ℕ)) (number : ℕ) (held line : List ℕ)
+    → Lasts old tests → HasReturn held line → IsHandled r tests was_full (number + 1) line mid now told_mid told_now
+    → IfErr r (λ ended. (begun : DeskState) (told : Option (List ℕ)) (read behind : List ℕ) (left : Option (List ℕ)) → IsTaking old begun mid told told_mid read number held
+    → IsHeld ended tests was_full begun now (read ++ 10 ∷ behind) left told told_now)
+held_ends (Ok u) old tests was_full mid now told_mid told_now number held line last is handled = tt
+held_ends (Err e) old tests was_full mid now told_mid told_now number held line last is handled = λ begun told read behind left taking.
+    let end = ending.ends held line taking.one is in
+    let next : held ++ 10 ∷ behind ≡ (line ++ end.end) ++ behind = sym (append_assoc held (10 ∷ []) behind) ∙ ap (λ (l : List ℕ). l ++ behind) end.next in
+    taking_ends e tests was_full begun mid now told told_mid told_now read number held line end.end (10 ∷ behind) behind left (taking_later old tests begun mid told told_mid read number held last taking)
+    end.is_line next (λ none. absurd (end.some none)) handled
+
+-- the last line, without an end
+pub last_held : (r : Result (Unit {0}) ConsoleEnd) (old tests : Tests) (was_full : Type 0) (mid now : DeskState) (told_mid told_now : Option (List ℕ)) (number : ℕ) (held : List ℕ)
+    → Lasts old tests → ¬ (held ≡ []) → IsHandled r tests was_full (number + 1) held mid now told_mid told_now
+    → (begun : DeskState) (told : Option (List ℕ)) (read : List ℕ) (left : Option (List ℕ)) → IsOver read left → IsTaking old begun mid told told_mid read number held
+    → IsHeld (end_of r) tests was_full begun now read left told told_now
+last_held (Ok u) old tests was_full mid now told_mid told_now number held last some handled begun told read left over taking =
+    taking_last tests was_full begun mid now told told_mid told_now read number held left some over (taking_later old tests begun mid told told_mid read number held last taking) handled.0 handled.1
+last_held (Err e) old tests was_full mid now told_mid told_now number held last some handled begun told read left over taking =
+    let later = taking_later old tests begun mid told told_mid read number held last taking in
+    let next : held ++ [] ≡ (held ++ []) ++ [] = sym (append-nil (held ++ [])) in
+    let O : List ℕ → Type 0 = λ l. IsOver l left in
+    let H : List ℕ → Type 0 = λ l. IsHeld e tests was_full begun now l left told told_now in
+    subst H (append-nil read) (taking_ends e tests was_full begun mid now told told_mid told_now read number held held [] [] [] left later
+    (record { one = taking.one; ended = inr (inr (refl, some)) }) next (λ none. (refl, subst O (sym (append-nil read)) over)) handled)
+
+-- a piece of the input
+
+-- memory ran out for the rest of a piece
+pub piece_ends : (r : Result (Unit {0}) ConsoleEnd) (old tests : Tests) (was_full : Type 0) (first now : DeskState) (told_first told_now : Option (List ℕ)) (number_first number : ℕ)
+    (held_first held piece before rest : List ℕ) → piece ≡ before ++ rest → IfErr r (λ e. e ≡ ends.NoMemory)
+    → ((begun : DeskState) (told : Option (List ℕ)) (read : List ℕ) → IsTaking old begun first told told_first read number_first held_first → IsTaking tests begun now told told_now (read ++ before) number held)
+    → IfErr r (λ e. (begun : DeskState) (told : Option (List ℕ)) (read : List ℕ) (left : Option (List ℕ)) → IsTaking old begun first told told_first read number_first held_first
+    → IsHeld e tests was_full begun now (read ++ piece) left told told_now)
+piece_ends (Ok u) old tests was_full first now told_first told_now number_first number held_first held piece before rest is failed so_far = tt
+piece_ends (Err e) old tests was_full first now told_first told_now number_first number held_first held piece before rest is failed so_far = λ begun told read left taking.
+    let parts : (read ++ before) ++ rest ≡ read ++ piece = append_assoc read before rest ∙ ap (λ (l : List ℕ). read ++ l) (sym is) in
+    let E : ConsoleEnd → Type 0 = λ x. IsHeld x tests was_full begun now (read ++ piece) left told told_now in
+    let P : List ℕ → Type 0 = λ l. IsHeld ends.NoMemory tests was_full begun now l left told told_now in
+    subst E (sym failed) (subst P parts (taking_starved tests was_full begun now told told_now (read ++ before) rest number held left (so_far begun told read taking)))
+
+-- the front of a line in it
+pub piece_held : (tests : Tests) (begun now : DeskState) (told told_now : Option (List ℕ)) (read before front : List ℕ) (number number_now : ℕ) (held held_now : List ℕ)
+    → number_now ≡ number → held_now ≡ held ++ front → LacksByte 10 front → IsTaking tests begun now told told_now (read ++ before) number held
+    → IsTaking tests begun now told told_now ((read ++ before) ++ front) number_now held_now
+piece_held tests begun now told told_now read before front number number_now held held_now same is lacks taking =
+    let L : List ℕ → Type 0 = λ l. LacksByte 10 l in
+    let N : ℕ → Type 0 = λ n. IsTaking tests begun now told told_now ((read ++ before) ++ front) n held_now in
+    subst N (sym same) (taking_held tests begun now told told_now (read ++ before) number held front held_now is (subst L (sym is) (lacks_both 10 held front taking.one lacks)) taking)
+
+-- the parts of a piece up to a line feed
+pub piece_parts : (read before front behind : List ℕ) → ((read ++ before) ++ front) ++ 10 ∷ behind ≡ read ++ (before ++ (front ++ 10 ∷ behind))
+piece_parts read before front behind = append_assoc (read ++ before) front (10 ∷ behind) ∙ append_assoc read before (front ++ 10 ∷ behind)
+
+pub piece_whole : (piece before rest front behind : List ℕ) → piece ≡ before ++ rest → rest ≡ front ++ 10 ∷ behind → piece ≡ (before ++ (front ++ 10 ∷ [])) ++ behind
+piece_whole piece before rest front behind is split =
+    is ∙ ap (λ (l : List ℕ). before ++ l) (split ∙ sym (append_assoc front (10 ∷ []) behind)) ∙ sym (append_assoc before (front ++ 10 ∷ []) behind)
+
+-- a line in it ends the console
+pub piece_line_ends : (e : ConsoleEnd) (tests : Tests) (was_full : Type 0) (begun now : DeskState) (told told_now : Option (List ℕ)) (read before rest front behind piece : List ℕ) (left : Option (List ℕ))
+    → piece ≡ before ++ rest → rest ≡ front ++ 10 ∷ behind → IsHeld e tests was_full begun now (((read ++ before) ++ front) ++ 10 ∷ behind) left told told_now
+    → IsHeld e tests was_full begun now (read ++ piece) left told told_now
+piece_line_ends e tests was_full begun now told told_now read before rest front behind piece left is split held =
+    let P : List ℕ → Type 0 = λ l. IsHeld e tests was_full begun now l left told told_now in
+    subst P (piece_parts read before front behind ∙ ap (λ (l : List ℕ). read ++ l) (ap (λ (l : List ℕ). before ++ l) (sym split) ∙ sym is)) held
+
+-- and goes on
+pub piece_line_goes : (tests : Tests) (begun now : DeskState) (told told_now : Option (List ℕ)) (read before front : List ℕ) (number : ℕ) (held : List ℕ)
+    → IsTaking tests begun now told told_now (((read ++ before) ++ front) ++ 10 ∷ []) number held → IsTaking tests begun now told told_now (read ++ (before ++ (front ++ 10 ∷ []))) number held
+piece_line_goes tests begun now told told_now read before front number held taking =
+    let P : List ℕ → Type 0 = λ l. IsTaking tests begun now told told_now l number held in
+    subst P (piece_parts read before front []) taking

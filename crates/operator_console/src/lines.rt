@@ -127,9 +127,9 @@ fn follow_held<D: Desk, O: Sink, K: Clock>(
 {
     lines.number += 1;
     let line = without_return(&lines.held);
-    follow_line(alloc, line, lines.number, lines.inverters, desk, out, clock)?;
+    let followed = follow_line(alloc, line, lines.number, lines.inverters, desk, out, clock);
     lines.held.clear();
-    Ok(())
+    followed
 }
 
 /// Takes a piece of the input: does each line that it makes whole, and holds the begin of the next one.
