@@ -6,6 +6,7 @@ use Rattle.std.specs.Str.Iter.{LacksByte}
 use Rattle.std.proofs.KnownBytes.{Appends-nil, Appends-trans}
 use Rattle.std.proofs.lemmas.List.{append-nil}
 use Rattle.plant_book.specs.Part.{PartRecord}
+use Rattle.world_traits.specs.Causes.{HasCause}
 use Rattle.ledger_desk.specs.Desk.{DeskState, EntersNone}
 use Rattle.operator_console.specs.declared.order.Order.{Order}
 use Rattle.operator_console.specs.declared.session.ConsoleEnd.{ConsoleEnd}
@@ -13,7 +14,7 @@ use Rattle.operator_console.specs.declared.session.ConsoleEnd.TheVariants as end
 use Rattle.operator_console.specs.Orders.{IsLine, IsOrder}
 use Rattle.operator_console.specs.Deeds.{Deed, Rolled, Tests, deed_text}
 use Rattle.operator_console.specs.Transcript.{AreDone, AreTaken, Done, EndsSo, HasStop, IsHeld, IsOver, IsStop, bytes_of, done_text, text_of}
-use Rattle.operator_console.specs.Handling.{Does, HasReturn, IsCut, IsHandled, IsTaking, IsWhole, end_of}
+use Rattle.operator_console.specs.Handling.{Does, HasReturn, IsCut, IsHandled, IsTaking, IsWhole, at_reads, end_of}
 use Rattle.operator_console.proofs.Telling.{none_entered}
 use Rattle.operator_console.proofs.Ending as ending
 use Rattle.operator_console.proofs.Ending.{lacks_both}
@@ -344,3 +345,44 @@ pub piece_line_goes : (tests : Tests) (begun now : DeskState) (told told_now : O
 piece_line_goes tests begun now told told_now read before front number held taking =
     let P : List ℕ → Type 0 = λ l. IsTaking tests begun now told told_now l number held in
     subst P (piece_parts read before front []) taking
+
+-- handling a line reads nothing
+pub handled_reads : (r : Result (Unit {0}) ConsoleEnd) (tests : Tests) (was_full : Type 0) (number : ℕ) (line : List ℕ) (old new : DeskState) (taken taken_now : Option (List ℕ))
+    → IsHandled r tests was_full number line old new taken taken_now → at_reads r ≡ Ok tt
+handled_reads (Ok u) tests was_full number line old new taken taken_now is = refl
+handled_reads (Err ends.Ended) tests was_full number line old new taken taken_now is = refl
+handled_reads (Err ends.Stopped) tests was_full number line old new taken taken_now is = refl
+handled_reads (Err ends.ReadFault) tests was_full number line old new taken taken_now is = absurd is
+handled_reads (Err ends.WriteFault) tests was_full number line old new taken taken_now is = refl
+handled_reads (Err ends.BookFull) tests was_full number line old new taken taken_now is = refl
+handled_reads (Err ends.NoMemory) tests was_full number line old new taken taken_now is = refl
+
+pub starved_reads : (r : Result (Unit {0}) ConsoleEnd) → IfErr r (λ e. e ≡ ends.NoMemory) → at_reads r ≡ Ok tt
+starved_reads (Ok u) failed = refl
+starved_reads (Err e) failed = let P : ConsoleEnd → Type 0 = λ x. at_reads (Err x) ≡ Ok tt in subst P (sym failed) refl
+
+-- how it ended, as the desk tells later
+so_later : (ended : ConsoleEnd) (inverters : ℕ) (was_full was_full_now : Type 0) (read rest : List ℕ) (dones : List Done) (left : Option (List ℕ)) (told told_now : Option (List ℕ))
+    → (was_full → was_full_now) → EndsSo ended inverters was_full read rest dones left told told_now → EndsSo ended inverters was_full_now read rest dones left told told_now
+so_later ends.Ended inverters was_full was_full_now read rest dones left told told_now full so = so
+so_later ends.Stopped inverters was_full was_full_now read rest dones left told told_now full so = so
+so_later ends.ReadFault inverters was_full was_full_now read rest dones left told told_now full so = so
+so_later ends.WriteFault inverters was_full was_full_now read rest dones left told told_now full so = so
+so_later ends.BookFull inverters was_full was_full_now read rest dones left told told_now full so = (full so.0, so.1, so.2, so.3)
+so_later ends.NoMemory inverters was_full was_full_now read rest dones left told told_now full so = so
+
+pub held_later : (ended : ConsoleEnd) (old tests : Tests) (was_full was_full_now : Type 0) (begun now : DeskState) (read : List ℕ) (left : Option (List ℕ)) (told told_now : Option (List ℕ))
+    → Lasts old tests → (was_full → was_full_now) → IsHeld ended old was_full begun now read left told told_now → IsHeld ended tests was_full_now begun now read left told told_now
+held_later ended old tests was_full was_full_now begun now read left told told_now last full held = record {
+  dones = held.dones;
+  rest = held.rest;
+  lines = held.lines;
+  are = are_later old tests begun now held.dones last held.are;
+  so = so_later ended begun.inverters was_full was_full_now read held.rest held.dones left told told_now full held.so;
+}
+
+-- the cause of a call that worked
+pub cause_none : (before mid now : ℕ) (r : Result (Unit {0}) (Unit {0})) → r ≡ Ok tt → mid ≡ before → now ≡ mid → HasCause before now r
+cause_none before mid now r worked first second =
+    let P : Result (Unit {0}) (Unit {0}) → Type 0 = λ x. HasCause before now x in
+    subst P (sym worked) (record { later = omega (arith, first, second); failed = tt; kept = second ∙ first })

@@ -1,12 +1,12 @@
 //! The lines of an input, as its bytes come.
-ghost use Rattle.std.specs.Prelude.{◌≡◌, ◌<◌, ◌≤◌, ◌+◌, ◌++◌, ◌∷◌, [], ◌^◌, ℕ, List, Option, IfErr, OnErr, OnOk, length};
+ghost use Rattle.std.specs.Prelude.{◌≡◌, ◌<◌, ◌≤◌, ◌+◌, ◌++◌, ◌∷◌, [], ◌^◌, ℕ, List, Option, IfErr, OnErr, OnOk, Ok, length};
 ghost use Rattle.std.specs.Str.Iter.{LacksByte};
 ghost use Rattle.world_traits.specs.Causes.{HasCause};
 ghost use Rattle.ledger_desk.specs.Desk.{DeskState};
 ghost use Rattle.operator_console.specs.Orders.{IsLine};
 ghost use Rattle.operator_console.specs.Transcript.{IsHeld, IsOver};
 ghost use Rattle.operator_console.specs.Deeds.{tests_of};
-ghost use Rattle.operator_console.specs.Handling.{HasReturn, IsHandled, IsTaking, TestsLast, at_writes, end_of};
+ghost use Rattle.operator_console.specs.Handling.{HasReturn, IsHandled, IsTaking, TestsLast, at_reads, at_writes, end_of};
 
 use crate::comments::bad_text;
 use crate::session::ConsoleEnd;
@@ -122,6 +122,7 @@ fn follow_held<D: Desk, O: Sink, K: Clock>(
     ensures last { TestsLast (D.may_tell desk.old) (D.may_tell desk.new) (D.was_full desk.old) (D.was_full desk.new)
         (D.ended desk.old) (D.ended desk.new) (D.was_full_life desk.old) (D.was_full_life desk.new) }
     ensures kept { D.kept desk.new ≡ D.kept desk.old }
+    ensures reads { at_reads result ≡ Ok tt }
     ensures cause { HasCause (O.faults out.old) (O.faults out.new) (at_writes result) }
     ensures stops { O.faults out.old ≡ 0 → O.late out.new ≡ O.late out.old }
 {
@@ -165,6 +166,7 @@ pub(crate) fn take_piece<D: Desk, O: Sink, K: Clock>(
     ensures last { TestsLast (D.may_tell desk.old) (D.may_tell desk.new) (D.was_full desk.old) (D.was_full desk.new)
         (D.ended desk.old) (D.ended desk.new) (D.was_full_life desk.old) (D.was_full_life desk.new) }
     ensures kept { D.kept desk.new ≡ D.kept desk.old }
+    ensures reads { at_reads result ≡ Ok tt }
     ensures cause { HasCause (O.faults out.old) (O.faults out.new) (at_writes result) }
     ensures stops { O.faults out.old ≡ 0 → O.late out.new ≡ O.late out.old }
 {
@@ -199,6 +201,7 @@ pub(crate) fn take_rest<D: Desk, O: Sink, K: Clock>(
     ensures last { TestsLast (D.may_tell desk.old) (D.may_tell desk.new) (D.was_full desk.old) (D.was_full desk.new)
         (D.ended desk.old) (D.ended desk.new) (D.was_full_life desk.old) (D.was_full_life desk.new) }
     ensures kept { D.kept desk.new ≡ D.kept desk.old }
+    ensures reads { at_reads result ≡ Ok tt }
     ensures cause { HasCause (O.faults out.old) (O.faults out.new) (at_writes result) }
     ensures stops { O.faults out.old ≡ 0 → O.late out.new ≡ O.late out.old }
 {

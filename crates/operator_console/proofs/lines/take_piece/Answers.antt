@@ -2,7 +2,7 @@ use Rattle.std.proofs.Common.{◌≡◌, ◌∙◌, ◌≤◌, ◌+◌, ◌++◌
 use Rattle.std.specs.Prelude.{Err}
 use Rattle.std.proofs.lemmas.Result.{err_from_is_err_and}
 use Rattle.operator_console.proofs.Ending.{last_again}
-use Rattle.operator_console.proofs.Taking.{piece_ends, piece_held, piece_line_ends, piece_line_goes, piece_whole}
+use Rattle.operator_console.proofs.Taking.{starved_reads, piece_ends, piece_held, piece_line_ends, piece_line_goes, piece_whole}
 use Rattle.operator_console.proofs.lines.take_piece.Goals as goal
 
 pub returns-in_err-hold-clause-ends : goal.returns-in_err-hold-clause-ends
@@ -51,3 +51,16 @@ pub returns-clause-ends : goal.returns-clause-ends
 returns-clause-ends g c =
     let before = c.loop-front.invariant.0 in
     piece_ends c.hold-2.result _ _ _ _ _ _ _ _ _ _ _ _ before.0 _ before.1 c.hold-2.ensures.failed before.2
+
+pub returns-clause-reads : goal.returns-clause-reads
+returns-clause-reads g c = starved_reads c.hold-2.result c.hold-2.ensures.failed
+
+pub returns-in_err-hold-clause-reads : goal.returns-in_err-hold-clause-reads
+returns-in_err-hold-clause-reads g c =
+    let p = err_from_is_err_and c.from_residual.result c.from_residual.ensures.1 in
+    rw (p.1, p.2) (starved_reads (Err c.in_err-hold.field-0.0) c.in_err-hold.ensures.failed)
+
+pub returns-in_err-follow_held-clause-reads : goal.returns-in_err-follow_held-clause-reads
+returns-in_err-follow_held-clause-reads g c =
+    let p = err_from_is_err_and c.from_residual-in_err-follow_held.result c.from_residual-in_err-follow_held.ensures.1 in
+    rw (p.1, p.2) c.in_err-follow_held.ensures.reads

@@ -4,7 +4,7 @@ use Rattle.std.proofs.lemmas.Bool.Decides.{nat_tests}
 use Rattle.operator_console.specs.Deeds.{tests_of}
 use Rattle.operator_console.specs.Handling.{IsHandled}
 use Rattle.operator_console.proofs.Ending.{lasts}
-use Rattle.operator_console.proofs.Taking.{last_held}
+use Rattle.operator_console.proofs.Taking.{handled_reads, last_held}
 use Rattle.operator_console.proofs.lines.take_rest.Goals as goal
 
 pub returns-clause-ended : goal.returns-clause-ended
@@ -22,3 +22,6 @@ returns-clause-ended g c =
         (g.D.Desk.was_full c.follow_line.new.desk) (c.args.lines.now.number + 1) l (g.D.Desk.state c.args.desk.now) (g.D.Desk.state c.follow_line.new.desk)
         (g.O.Sink.taken c.args.out.now) (g.O.Sink.taken c.follow_line.new.out) in
     last_held c.follow_line.result _ _ _ _ _ _ _ _ _ (lasts _ _ _ _ _ _ _ _ _ c.follow_line.ensures.last) some (subst P c.deref.ensures.value c.follow_line.ensures.handled)
+
+pub returns-clause-reads : goal.returns-clause-reads
+returns-clause-reads g c = handled_reads c.follow_line.result _ _ _ _ _ _ _ _ c.follow_line.ensures.handled
