@@ -1,14 +1,14 @@
 -- Lines that were done, and one more.
-use Rattle.std.proofs.Common.{◌≡◌, ℕ, ◌+◌, ◌≤◌, List, [], ◌∷◌, ◌++◌, length, Option, refl, sym, ap, subst, ◌∙◌, arith, inl, inr, length-append, append_assoc}
+use Rattle.std.proofs.Common.{◌≡◌, ℕ, ◌+◌, List, [], ◌∷◌, ◌++◌, length, refl, sym, ap, subst, ◌∙◌, arith, inl, inr, length-append, append_assoc}
 use Rattle.std.specs.Prelude.{◌⊎◌, Bool, IsTrue}
 use Rattle.plant_book.specs.declared.book.Entry.{Entry}
 use Rattle.std.specs.List.{flat_map}
 use Rattle.std.proofs.lemmas.List.{append-nil}
 use Rattle.std.proofs.lemmas.Grind.{flat_map-append}
-use Rattle.ledger_desk.specs.Desk.{DeskState, EntersNone, GoalTest, GoalsLast, LifeTest, LivesLast, RollTest, RollsLast}
+use Rattle.ledger_desk.specs.Desk.{DeskState, EntersNone, GoalsLast, LivesLast, RollsLast}
 use Rattle.operator_console.specs.Orders.{IsLine}
 use Rattle.operator_console.specs.Deeds.{Deed, Entered, IsDeed, LifeFull, Passed, Refused, Rolled, Tests, deed_entries, deed_fronts, deed_rolls}
-use Rattle.operator_console.specs.Transcript.{AreDone, Done, IsDone, NeverFall, bytes_of, done_text, entries_of, fronts_of, rolls_of, text_of}
+use Rattle.operator_console.specs.Transcript.{AreDone, Done, IsDone, NeverFall, entries_of, fronts_of, rolls_of}
 use Rattle.operator_console.specs.Handling.{Does}
 use Rattle.operator_console.proofs.Fronts.{fall_append, higher_last}
 

@@ -1,9 +1,8 @@
 -- A line and its end, among the bytes that were held.
-use Rattle.std.proofs.Common.{◌≡◌, ℕ, zero, suc, ◌+◌, ◌<◌, List, [], ◌∷◌, ◌++◌, length, get_or, refl, sym, ap, subst, ◌∙◌, arith, inl, inr, length-append, append_assoc}
-use Rattle.std.specs.Prelude.{◌⊎◌}
+use Rattle.std.proofs.Common.{◌≡◌, ℕ, zero, suc, ◌<◌, List, [], ◌∷◌, ◌++◌, length, get_or, refl, ap, subst, ◌∙◌, arith, inl, inr, append_assoc}
 use Rattle.std.specs.Str.Iter.{LacksByte}
-use Rattle.operator_console.specs.Orders.{EndsInReturn, IsLine}
-use Rattle.operator_console.specs.Deeds.{Tests, tests_of}
+use Rattle.operator_console.specs.Orders.{IsLine}
+use Rattle.operator_console.specs.Deeds.{tests_of}
 use Rattle.operator_console.specs.Handling.{HasReturn, TestsLast}
 use Rattle.operator_console.proofs.Done.{Lasts}
 use Rattle.std.specs.Prelude.{Bool}

@@ -1,8 +1,7 @@
 -- What handling an order comes to, by what its calls came to.
-use Rattle.std.proofs.Common.{◌≡◌, ℕ, ◌+◌, ◌≤◌, List, [], ◌∷◌, ◌++◌, length, map, Option, Some, None, get_or, refl, sym, ap, subst, ◌∙◌, arith, inl, inr, length-append}
-use Rattle.std.specs.Prelude.{All, Bool, IsTrue, IfErr, OnErr, OnOk, Result, Ok, Err, codes, ◌⊎◌}
+use Rattle.std.proofs.Common.{◌≡◌, ℕ, ◌+◌, List, [], ◌∷◌, length, map, Option, Some, None, get_or, refl, sym, ap, subst, ◌∙◌, arith, inl, inr, length-append}
+use Rattle.std.specs.Prelude.{All, IsTrue, IfErr, OnErr, OnOk, Result, Ok, Err, codes, ◌⊎◌}
 use Rattle.std.specs.Io.KnownBytes.{Appends}
-use Rattle.std.proofs.KnownBytes.{Appends-nil}
 use Rattle.std.proofs.lemmas.List.{append-nil}
 use Rattle.std.proofs.lemmas.List.Elements.{All-nil}
 use Rattle.plant_book.specs.declared.call.Call.{Call}
@@ -11,17 +10,17 @@ use Rattle.plant_book.specs.declared.call.Reply.{Reply}
 use Rattle.plant_book.specs.declared.book.Entry.{Entry}
 use Rattle.plant_book.specs.Calls.{at_moment}
 use Rattle.plant_book.specs.Part.{PartRecord}
-use Rattle.ledger_desk.specs.Desk.{DeskState, AddsRoll, Enters, EntersNone, GoalTest, LifeTest, RollTest}
+use Rattle.ledger_desk.specs.Desk.{DeskState, AddsRoll, Enters, EntersNone, LifeTest, RollTest}
 use Rattle.stream_io.specs.Streams.{AppendsFront}
 use Rattle.operator_console.specs.declared.order.Order.{Order}
 use Rattle.operator_console.specs.declared.order.Order.TheVariants as orders
 use Rattle.operator_console.specs.declared.session.ConsoleEnd.{ConsoleEnd}
 use Rattle.operator_console.specs.declared.session.ConsoleEnd.TheVariants as ends
-use Rattle.operator_console.specs.Orders.{IsOrder, asked_by, call_of, order_line}
+use Rattle.operator_console.specs.Orders.{IsOrder, asked_by, call_of}
 use Rattle.operator_console.specs.Comments.{bad_line, full_line, reply_line, rolled_text}
-use Rattle.operator_console.specs.Deeds.{Deed, Entered, LifeFull, Passed, Refused, Rolled, Tests, Told, deed_text}
+use Rattle.operator_console.specs.Deeds.{Deed, Entered, LifeFull, Refused, Rolled, Tests, Told, deed_text}
 use Rattle.operator_console.specs.Transcript.{NeverFall}
-use Rattle.operator_console.specs.Handling.{Does, IsHandled, IsRoll, IsRolled, IsShown, IsStatus, IsStopped, IsToldCall, goals_text}
+use Rattle.operator_console.specs.Handling.{Does, IsHandled, IsRoll, IsRolled, IsShown, IsStatus, IsStopped, IsToldCall}
 use Rattle.operator_console.proofs.Telling.{none_entered}
 
 -- the line of another order is no stop
@@ -140,7 +139,6 @@ does_roll tests line old new book spelled adds ended =
       fronts = (adds.front, omega arith);
       inverters = adds.inverters;
     }
-
 
 does_full : (tests : Tests) (line : List ℕ) (old new : DeskState) (calls : ℕ) → IsOrder old.inverters line orders.Roll → EntersNone old new
     → tests.full_life calls → Does tests line (LifeFull calls) old new

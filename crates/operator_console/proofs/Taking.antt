@@ -1,21 +1,18 @@
 -- Lines that are taken one after another, and how they end.
-use Rattle.std.proofs.Common.{◌≡◌, ℕ, ◌+◌, ◌≤◌, ◌<◌, List, [], ◌∷◌, ◌++◌, length, Option, refl, sym, ap, subst, ◌∙◌, arith, inl, inr, length-append, append_assoc}
-use Rattle.std.specs.Prelude.{◌⊎◌, IfErr, OnOk, Result, Ok, Err, codes}
+use Rattle.std.proofs.Common.{◌≡◌, ℕ, ◌+◌, List, [], ◌∷◌, ◌++◌, length, Option, refl, sym, ap, subst, ◌∙◌, arith, inl, inr, length-append, append_assoc}
+use Rattle.std.specs.Prelude.{IfErr, OnOk, Result, Ok, Err, codes}
 use Rattle.std.specs.Io.KnownBytes.{Appends}
 use Rattle.std.specs.Str.Iter.{LacksByte}
 use Rattle.std.proofs.KnownBytes.{Appends-nil, Appends-trans}
 use Rattle.std.proofs.lemmas.List.{append-nil}
-use Rattle.plant_book.specs.Part.{PartRecord}
 use Rattle.world_traits.specs.Causes.{HasCause}
-use Rattle.ledger_desk.specs.Desk.{DeskState, EntersNone}
-use Rattle.operator_console.specs.declared.order.Order.{Order}
+use Rattle.ledger_desk.specs.Desk.{DeskState}
 use Rattle.operator_console.specs.declared.session.ConsoleEnd.{ConsoleEnd}
 use Rattle.operator_console.specs.declared.session.ConsoleEnd.TheVariants as ends
 use Rattle.operator_console.specs.Orders.{IsLine, IsOrder}
-use Rattle.operator_console.specs.Deeds.{Deed, Rolled, Tests, deed_text}
-use Rattle.operator_console.specs.Transcript.{AreDone, AreTaken, Done, EndsSo, HasStop, IsHeld, IsOver, IsStop, bytes_of, done_text, text_of}
-use Rattle.operator_console.specs.Handling.{Does, HasReturn, IsCut, IsHandled, IsTaking, IsWhole, at_reads, end_of}
-use Rattle.operator_console.proofs.Telling.{none_entered}
+use Rattle.operator_console.specs.Deeds.{Rolled, Tests}
+use Rattle.operator_console.specs.Transcript.{AreTaken, Done, EndsSo, HasStop, IsHeld, IsOver, IsStop, bytes_of, done_text, text_of}
+use Rattle.operator_console.specs.Handling.{HasReturn, IsHandled, IsTaking, IsWhole, at_reads, end_of}
 use Rattle.operator_console.proofs.Ending as ending
 use Rattle.operator_console.proofs.Ending.{lacks_both}
 use Rattle.operator_console.proofs.Done.{Lasts, are_later, are_more, are_none, flat_more, one_done, place_of}
@@ -177,8 +174,12 @@ taking_ends ends.BookFull tests was_full begun mid now told told_mid told_now re
       rest = held ++ tail;
       lines = rest_taken tests begun mid told told_mid read tail number held left taking;
       are = are_none tests begun mid now taking.dones taking.are none;
-      so = (full, record { line = line; end = end; behind = behind; parts = next; is_line = is_line; last = over; order = order; spelled = subst P taking.are.inverters spelled; calls = calls },
-          no_stop taking.dones taking.going, nothing_gained told told_mid told_now (text_of taking.dones) taking.written gained);
+      so = (
+        full,
+        record { line = line; end = end; behind = behind; parts = next; is_line = is_line; last = over; order = order; spelled = subst P taking.are.inverters spelled; calls = calls },
+        no_stop taking.dones taking.going,
+        nothing_gained told told_mid told_now (text_of taking.dones) taking.written gained,
+      );
     }
 taking_ends ends.NoMemory tests was_full begun mid now told told_mid told_now read number held line end tail behind left taking is_line next over (inl (none, gained)) = record {
   dones = taking.dones;
@@ -194,8 +195,10 @@ taking_ends ends.NoMemory tests was_full begun mid now told told_mid told_now re
       rest = behind;
       lines = last_taken tests begun mid told told_mid read tail number held behind left done taking next over;
       are = are_more tests begun mid now taking.dones done taking.are does (ap (λ (n : ℕ). n + 1) taking.count) is_line;
-      so = (no_stop_more tests begun mid told told_mid read number held done taking goes,
-          inr (done, record { before = taking.dones; is = refl; front = front; behind = rest; parts = parts; written = Appends-trans told told_mid told_now (text_of taking.dones) front taking.written gained }, place, book, refl));
+      so = (
+        no_stop_more tests begun mid told told_mid read number held done taking goes,
+        inr (done, record { before = taking.dones; is = refl; front = front; behind = rest; parts = parts; written = Appends-trans told told_mid told_now (text_of taking.dones) front taking.written gained }, place, book, refl),
+      );
     }
 
 -- memory ran out for the begin of a line

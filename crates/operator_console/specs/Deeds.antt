@@ -1,15 +1,14 @@
 -- What a console does of one line.
-use Rattle.std.specs.Prelude.{◌≡◌, ℕ, ◌+◌, ◌≤◌, Bool, IsTrue, List, [], ◌∷◌, ◌++◌, All, length, map, Option, Some}
+use Rattle.std.specs.Prelude.{◌≡◌, ℕ, ◌+◌, ◌≤◌, Bool, IsTrue, List, [], ◌∷◌, ◌++◌, All, map, Some}
 use Rattle.std.specs.List.{flat_map}
 use Rattle.plant_book.specs.declared.call.Call.{Call}
-use Rattle.plant_book.specs.declared.call.Reply.{Reply}
 use Rattle.plant_book.specs.declared.call.TheConstants.{MOMENT_MAX}
 use Rattle.plant_book.specs.declared.book.Entry.{Entry}
 use Rattle.plant_book.specs.Calls.{moment, at_moment}
 use Rattle.plant_book.specs.Part.{PartRecord}
 use Rattle.plant_ledger.specs.declared.plant.Goal.{Goal}
 use Rattle.ledger_desk.specs.Calls.{IsReplyTo}
-use Rattle.ledger_desk.specs.Desk.{DeskState, GoalTest, RollTest, LifeTest}
+use Rattle.ledger_desk.specs.Desk.{GoalTest, RollTest, LifeTest}
 use Rattle.operator_console.specs.declared.order.Order.{Order}
 use Rattle.operator_console.specs.declared.order.Order.TheVariants as orders
 use Rattle.operator_console.specs.Orders.{IsOrder, call_of, asked_by}

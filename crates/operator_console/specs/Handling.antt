@@ -1,5 +1,5 @@
 -- A console between two lines, and what handling one line comes to. No promise to a caller names this.
-use Rattle.std.specs.Prelude.{◌≡◌, ℕ, ◌≤◌, ◌⊎◌, All, map, List, [], ◌∷◌, ◌++◌, codes, length, Option, Some, None, Result, Ok, Err}
+use Rattle.std.specs.Prelude.{◌≡◌, ℕ, ◌⊎◌, All, map, List, [], ◌∷◌, ◌++◌, codes, length, Option, None, Result, Ok, Err}
 use Rattle.std.specs.List.{flat_map, range_with_len}
 use Rattle.std.specs.Io.KnownBytes.{Appends}
 use Rattle.std.specs.Str.Iter.{LacksByte}

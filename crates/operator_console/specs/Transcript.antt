@@ -1,18 +1,16 @@
 -- The transcript of a console: what was done of the lines of the bytes that were read, and how it ended.
-use Rattle.std.specs.Prelude.{◌≡◌, ◌≢◌, ℕ, ◌+◌, ◌≤◌, ◌⊎◌, List, [], ◌∷◌, ◌++◌, codes, length, Option, Some, IsTrue, Bool, Result, Ok, Err}
+use Rattle.std.specs.Prelude.{◌≡◌, ℕ, ◌+◌, ◌≤◌, ◌⊎◌, List, [], ◌∷◌, ◌++◌, codes, length, Option, IsTrue, Bool, Result, Ok, Err}
 use Rattle.std.specs.List.{flat_map}
 use Rattle.std.specs.Io.KnownBytes.{Appends, Consumes, IsAtEnd}
 use Rattle.std.specs.Str.Iter.{LacksByte}
-use Rattle.plant_book.specs.declared.call.Call.{Call}
 use Rattle.plant_book.specs.declared.call.Call.TheVariants as calls
 use Rattle.plant_book.specs.declared.call.Reply.TheVariants as replies
 use Rattle.plant_book.specs.declared.book.Entry.{Entry}
 use Rattle.ledger_desk.specs.Desk.{DeskState, EntersNone, Enters}
-use Rattle.stream_io.specs.Streams.{AppendsFront}
 use Rattle.operator_console.specs.declared.order.Order.{Order}
 use Rattle.operator_console.specs.declared.session.ConsoleEnd.{ConsoleEnd}
 use Rattle.operator_console.specs.declared.session.ConsoleEnd.TheVariants as ends
-use Rattle.operator_console.specs.Orders.{IsOrder, IsLine, call_of, order_line}
+use Rattle.operator_console.specs.Orders.{IsOrder, IsLine, call_of}
 use Rattle.operator_console.specs.Deeds.{Deed, Rolled, Tests, IsDeed, deed_entries, deed_fronts, deed_rolls, deed_text}
 
 -- a line of the input with its number from 1 and its end, and what was done of it

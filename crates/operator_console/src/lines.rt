@@ -9,10 +9,10 @@ ghost use Rattle.operator_console.specs.Deeds.{tests_of};
 ghost use Rattle.operator_console.specs.Handling.{HasReturn, IsHandled, IsTaking, TestsLast, at_reads, at_writes, end_of};
 
 use crate::comments::bad_text;
-use crate::session::ConsoleEnd;
 use crate::finding::parts_at;
 use crate::order::order_of;
 use crate::orders::follow_order;
+use crate::session::ConsoleEnd;
 use crate::writing::write;
 use ledger_desk::Desk;
 use std::alloc::Global;
@@ -81,7 +81,11 @@ impl Lines {
         ensures inverters { self.new.inverters ≡ self.old.inverters }
         ensures failed { IfErr result (λ end. end ≡ ConsoleEnd.NoMemory) }
     {
-        let grown = if self.held.capacity() == 0 { self.held.reserve(HELD_MIN) } else { Ok(()) };
+        let grown = if self.held.capacity() == 0 {
+            self.held.reserve(HELD_MIN)
+        } else {
+            Ok(())
+        };
         if grown.is_err() || self.held.extend_from_slice(more).is_err() {
             return Err(ConsoleEnd::NoMemory);
         }
@@ -208,5 +212,13 @@ pub(crate) fn take_rest<D: Desk, O: Sink, K: Clock>(
     if lines.held.is_empty() {
         return Ok(());
     }
-    follow_line(alloc, &lines.held, lines.number + 1, lines.inverters, desk, out, clock)
+    follow_line(
+        alloc,
+        &lines.held,
+        lines.number + 1,
+        lines.inverters,
+        desk,
+        out,
+        clock,
+    )
 }

@@ -5,9 +5,9 @@ ghost use Rattle.operator_console.specs.Orders.{IsInRange, IsOrder};
 ghost use Rattle.operator_console.specs.Deeds.{tests_of};
 ghost use Rattle.operator_console.specs.Handling.{IsHandled, IsRolled, IsShown, IsStopped, TestsLast, at_writes};
 
-use crate::session::ConsoleEnd;
 use crate::order::Order;
 use crate::rolled::write_rolled;
+use crate::session::ConsoleEnd;
 use crate::status::status_text;
 use crate::writing::{enter, tell_call, write};
 use ledger_desk::Desk;

@@ -55,11 +55,7 @@ fn write_head<O: Sink>(alloc: Global, book: &Book, out: &mut O) -> Result<(), Co
 }
 
 /// Writes the lines of entries.
-fn write_entries<O: Sink>(
-    alloc: Global,
-    entries: &[Entry],
-    out: &mut O,
-) -> Result<(), ConsoleEnd>
+fn write_entries<O: Sink>(alloc: Global, entries: &[Entry], out: &mut O) -> Result<(), ConsoleEnd>
     ensures all { OnOk result (Appends (O.taken out.old) (O.taken out.new) (flat_map texts.entry_text entries.now)) }
     ensures front { OnErr result (AppendsFront (O.taken out.old) (O.taken out.new)
         (flat_map texts.entry_text entries.now)) }
@@ -75,11 +71,7 @@ fn write_entries<O: Sink>(
 }
 
 /// Writes the line of an entry. The line is built in place of what was built before.
-fn write_entry<O: Sink>(
-    line: &mut Vec<u8>,
-    entry: &Entry,
-    out: &mut O,
-) -> Result<(), ConsoleEnd>
+fn write_entry<O: Sink>(line: &mut Vec<u8>, entry: &Entry, out: &mut O) -> Result<(), ConsoleEnd>
     ensures all { OnOk result (Appends (O.taken out.old) (O.taken out.new) (texts.entry_text entry.now)) }
     ensures front { OnErr result (AppendsFront (O.taken out.old) (O.taken out.new) (texts.entry_text entry.now)) }
     ensures failed { IfErr result (λ end. (end ≡ ConsoleEnd.WriteFault) ⊎ (end ≡ ConsoleEnd.NoMemory)) }

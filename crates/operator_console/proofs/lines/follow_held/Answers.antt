@@ -1,4 +1,4 @@
-use Rattle.std.proofs.Common.{◌≡◌, List, ℕ, subst}
+use Rattle.std.proofs.Common.{List, ℕ, subst}
 use Rattle.operator_console.specs.Handling.{HasReturn}
 use Rattle.operator_console.proofs.Ending.{lasts}
 use Rattle.operator_console.proofs.Taking.{handled_reads, held_ends, held_goes_on}

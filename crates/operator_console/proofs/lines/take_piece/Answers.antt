@@ -1,4 +1,4 @@
-use Rattle.std.proofs.Common.{◌≡◌, ◌∙◌, ◌≤◌, ◌+◌, ◌++◌, ◌∷◌, [], ℕ, List, ap, arith, length, length-append}
+use Rattle.std.proofs.Common.{◌≡◌, ◌∙◌, ◌+◌, ◌++◌, ◌∷◌, [], ℕ, ap, arith, length, length-append}
 use Rattle.std.specs.Prelude.{Err}
 use Rattle.std.proofs.lemmas.Result.{err_from_is_err_and}
 use Rattle.operator_console.proofs.Ending.{last_again}
@@ -30,13 +30,12 @@ loop-front-preserved g c =
     let behind = c.in-Some.behind.now in
     let followed = c.follow_held.ensures in
     let long : length (before.0 ++ (front ++ 10 ∷ [])) ≡ length before.0 + (length front + 1) = length-append before.0 (front ++ 10 ∷ []) ∙ ap (λ (n : ℕ). length before.0 + n) (length-append front (10 ∷ [])) in
-    let number : c.hold.new.self.number ≡ c.loop-front.lines.number = c.hold.ensures.number in
-    (
+    let number : c.hold.new.self.number ≡ c.loop-front.lines.number = c.hold.ensures.number in (
       (
         before.0 ++ (front ++ 10 ∷ []),
         piece_whole c.args.piece.now before.0 c.loop-front.rest.now front behind before.1 c.in-Some.ensures.0,
         (λ begun told read taking. piece_line_goes _ begun _ told _ read before.0 front _ _ (c.in_ok-follow_held.ensures.goes_on begun told ((read ++ before.0) ++ front)
-        (piece_held _ begun _ told _ read before.0 front _ _ _ _ c.in_ok-hold.ensures.number c.in_ok-hold.ensures.held c.in-Some.ensures.1 (before.2 begun told read taking)))),
+            (piece_held _ begun _ told _ read before.0 front _ _ _ _ c.in_ok-hold.ensures.number c.in_ok-hold.ensures.held c.in-Some.ensures.1 (before.2 begun told read taking)))),
         omega (arith, long, number, followed.number, before.3),
       ),
       last_again _ _ _ _ _ _ _ _ _ _ _ _ invariant.1 followed.last,

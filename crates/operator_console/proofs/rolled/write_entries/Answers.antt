@@ -1,4 +1,4 @@
-use Rattle.std.proofs.Common.{◌≡◌, ◌∙◌, ◌+◌, ◌++◌, List, ℕ, ap, sym, subst, take, drop, get_or, arith}
+use Rattle.std.proofs.Common.{◌≡◌, ◌∙◌, ◌+◌, ◌++◌, List, ℕ, sym, subst, drop}
 use Rattle.std.specs.List.{flat_map}
 use Rattle.std.specs.Io.KnownBytes.{Appends}
 use Rattle.std.proofs.KnownBytes.{Appends-trans}
@@ -23,8 +23,7 @@ loop-entry-preserved g c =
     let i = c.loop-entry.entry-index in
     let more = Appends-trans _ _ _ _ _ c.loop-entry.invariant.0 c.in_ok-write_entry.ensures.all in
     let P : List ℕ → Type 0 = λ t. Appends (g.O.Sink.taken c.args.out.now) (g.O.Sink.taken c.write_entry.new.out) t in
-    let kept : g.O.Sink.faults c.write_entry.new.out ≡ g.O.Sink.faults c.loop-entry.out = c.in_ok-write_entry.ensures.cause.kept in
-    (
+    let kept : g.O.Sink.faults c.write_entry.new.out ≡ g.O.Sink.faults c.loop-entry.out = c.in_ok-write_entry.ensures.cause.kept in (
       subst P (sym (texts_to texts.entry_text xs i _ c.loop-entry-test.true)) more,
       kept ∙ c.loop-entry.invariant.1,
       λ none. c.write_entry.ensures.stops (c.loop-entry.invariant.1 ∙ none) ∙ c.loop-entry.invariant.2 none,

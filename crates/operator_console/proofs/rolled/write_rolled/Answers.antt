@@ -6,7 +6,7 @@ use Rattle.plant_book.specs.declared.book.Entry.{Entry}
 use Rattle.plant_book.specs.Part.{PartRecord}
 use Rattle.stream_io.specs.Streams.{AppendsFront}
 use Rattle.script_text.specs.Text as texts
-use Rattle.operator_console.specs.Comments.{head_before, rolled_text}
+use Rattle.operator_console.specs.Comments.{head_before}
 use Rattle.operator_console.proofs.Texts.{front_first, front_second, on_err, on_err_more}
 use Rattle.operator_console.proofs.rolled.write_rolled.Goals as goal
 

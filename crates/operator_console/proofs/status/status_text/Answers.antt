@@ -1,4 +1,4 @@
-use Rattle.std.proofs.Common.{◌≡◌, ◌∙◌, ◌≤◌, ◌+◌, ◌*◌, ◌++◌, [], ◌∷◌, List, ℕ, ap, sym, arith, length, length-append, append_assoc}
+use Rattle.std.proofs.Common.{◌≡◌, ◌∙◌, ◌≤◌, ◌+◌, ◌++◌, [], ◌∷◌, List, ℕ, ap, sym, arith, length, length-append, append_assoc}
 use Rattle.operator_console.specs.Comments.{reply_line, goal_line}
 use Rattle.operator_console.specs.Deeds.{Told}
 use Rattle.operator_console.specs.Handling.{goals_text}
@@ -18,10 +18,12 @@ loop-inverter-preserved g c =
     let text : c.loop-inverter.text ++ line ≡ reply_line c.args.reply.now ++ (goals_text before.0.0 ++ line) = ap (λ (t : List ℕ). t ++ line) before.0.1 ∙ append_assoc (reply_line c.args.reply.now) (goals_text before.0.0) line in
     let goals : goals_text before.0.0 ++ line ≡ goals_text (before.0.0 ++ one ∷ []) = sym (text_more before.0.0 one) in
     let short : length line ≤ 56 = omega (arith, ap length c.goal_text.ensures.line, c.goal_text.ensures.short) in
-    let long : length c.extend_from_slice.new.self ≡ length c.loop-inverter.text + length line = ap length added ∙ length-append c.loop-inverter.text line in
-    (
-      (before.0.0 ++ one ∷ [], added ∙ text ∙ ap (λ (t : List ℕ). reply_line c.args.reply.now ++ t) goals,
-      told_more _ _ n desk mid now before.0.0 c.goal-goal.result before.0.2 c.goal-goal.ensures.goals_last before.1 c.goal-goal.ensures.none c.goal-goal.ensures.told),
+    let long : length c.extend_from_slice.new.self ≡ length c.loop-inverter.text + length line = ap length added ∙ length-append c.loop-inverter.text line in (
+      (
+        before.0.0 ++ one ∷ [],
+        added ∙ text ∙ ap (λ (t : List ℕ). reply_line c.args.reply.now ++ t) goals,
+        told_more _ _ n desk mid now before.0.0 c.goal-goal.result before.0.2 c.goal-goal.ensures.goals_last before.1 c.goal-goal.ensures.none c.goal-goal.ensures.told,
+      ),
       none_again desk mid now before.1 c.goal-goal.ensures.none,
       record {
         goals = λ a b d e is. c.goal-goal.ensures.goals_last a b d e (before.2.goals a b d e is);
