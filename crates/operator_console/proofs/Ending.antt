@@ -3,7 +3,8 @@ use Rattle.std.proofs.Common.{◌≡◌, ℕ, zero, suc, ◌<◌, List, [], ◌�
 use Rattle.std.specs.Str.Iter.{LacksByte}
 use Rattle.operator_console.specs.Orders.{IsLine}
 use Rattle.operator_console.specs.Deeds.{tests_of}
-use Rattle.operator_console.specs.Handling.{HasReturn, TestsLast}
+use Rattle.operator_console.specs.Handling.{HasReturn}
+use Rattle.operator_console.specs.Transcript.{TestsLast}
 use Rattle.operator_console.proofs.Done.{Lasts}
 use Rattle.std.specs.Prelude.{Bool}
 use Rattle.ledger_desk.specs.Desk.{GoalTest, LifeTest, RollTest}

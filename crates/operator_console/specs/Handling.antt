@@ -17,14 +17,6 @@ use Rattle.operator_console.specs.Comments.{full_line, goal_line, reply_line, ro
 use Rattle.operator_console.specs.Deeds.{Deed, Told, Rolled, Tests, IsDeed, deed_entries, deed_fronts, deed_rolls, deed_text}
 use Rattle.operator_console.specs.Transcript.{Done, AreDone, IsStop, NeverFall, bytes_of, text_of}
 
--- what passed a test of the desk before passes it now
-pub record TestsLast (may_tell may_tell_now : GoalTest) (was_full was_full_now : Type 0) (ended ended_now : RollTest)
-    (full_life full_life_now : LifeTest) : Type 0 where
-  pub goals : GoalsLast may_tell may_tell_now
-  pub full : was_full → was_full_now
-  pub rolls : RollsLast ended ended_now
-  pub lives : LivesLast full_life full_life_now
-
 -- the desk did the deed of a line
 pub record Does (tests : Tests) (line : List ℕ) (deed : Deed) (old new : DeskState) : Type 0 where
   pub is : IsDeed tests old.inverters (length old.made) (length old.rolls) line deed

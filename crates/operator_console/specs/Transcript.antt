@@ -1,12 +1,14 @@
 -- The transcript of a console: what was done of the lines of the bytes that were read, and how it ended.
-use Rattle.std.specs.Prelude.{◌≡◌, ℕ, ◌+◌, ◌≤◌, ◌⊎◌, List, [], ◌∷◌, ◌++◌, codes, length, Option, IsTrue, Bool, Result, Ok, Err}
+use Rattle.std.specs.Prelude.{◌≡◌, ℕ, ◌+◌, ◌≤◌, ◌⊎◌, List, [], ◌∷◌, ◌++◌, codes, length}
+use Rattle.std.specs.Prelude.{Option, None, IsTrue, Bool, Result, Ok, Err}
 use Rattle.std.specs.List.{flat_map}
 use Rattle.std.specs.Io.KnownBytes.{Appends, Consumes, IsAtEnd}
 use Rattle.std.specs.Str.Iter.{LacksByte}
 use Rattle.plant_book.specs.declared.call.Call.TheVariants as calls
 use Rattle.plant_book.specs.declared.call.Reply.TheVariants as replies
 use Rattle.plant_book.specs.declared.book.Entry.{Entry}
-use Rattle.ledger_desk.specs.Desk.{DeskState, EntersNone, Enters}
+use Rattle.ledger_desk.specs.Desk.{DeskState, EntersNone, Enters, GoalTest, RollTest, LifeTest}
+use Rattle.ledger_desk.specs.Desk.{GoalsLast, RollsLast, LivesLast}
 use Rattle.operator_console.specs.declared.order.Order.{Order}
 use Rattle.operator_console.specs.declared.session.ConsoleEnd.{ConsoleEnd}
 use Rattle.operator_console.specs.declared.session.ConsoleEnd.TheVariants as ends
@@ -95,7 +97,7 @@ pub record CallsNext (inverters : ℕ) (read rest : List ℕ) (left : Option (Li
   pub last : end ≡ [] → (behind ≡ []) × IsOver read left
   pub order : Order
   pub spelled : IsOrder inverters line order
-  pub calls : ¬ (call_of order 0 ≡ Option.None)
+  pub calls : ¬ (call_of order 0 ≡ None)
 
 -- The output gained the text of all of these lines but the last, and the first bytes of that of the last.
 pub record IsCutShort (dones : List Done) (last : Done) (old new : Option (List ℕ)) : Type 0 where
@@ -134,6 +136,14 @@ IsClosed ends.BookFull may_give was_full old new = new ≡ old
 IsClosed _ may_give was_full old new =
     ((reading : ℕ) × IsTrue (may_give reading) × Enters (calls.Stop reading) replies.Taken old new)
     ⊎ (was_full × EntersNone old new)
+
+-- what passed a test of the desk before passes it now
+pub record TestsLast (may_tell may_tell_now : GoalTest) (was_full was_full_now : Type 0) (ended ended_now : RollTest)
+    (full_life full_life_now : LifeTest) : Type 0 where
+  pub goals : GoalsLast may_tell may_tell_now
+  pub full : was_full → was_full_now
+  pub rolls : RollsLast ended ended_now
+  pub lives : LivesLast full_life full_life_now
 
 -- What an end says of the reads, and of the writes: one failed, or none.
 abbrev pub at_input : ConsoleEnd → Result (Unit {0}) (Unit {0})

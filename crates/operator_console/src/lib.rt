@@ -12,6 +12,8 @@ mod orders;
 mod rolled;
 mod session;
 mod status;
+#[cfg(test)]
+mod tests;
 mod writing;
 
 pub use order::{Order, order_of};

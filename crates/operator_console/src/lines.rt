@@ -6,7 +6,8 @@ ghost use Rattle.ledger_desk.specs.Desk.{DeskState};
 ghost use Rattle.operator_console.specs.Orders.{IsLine};
 ghost use Rattle.operator_console.specs.Transcript.{IsHeld, IsOver};
 ghost use Rattle.operator_console.specs.Deeds.{tests_of};
-ghost use Rattle.operator_console.specs.Handling.{HasReturn, IsHandled, IsTaking, TestsLast, at_reads, at_writes, end_of};
+ghost use Rattle.operator_console.specs.Handling.{HasReturn, IsHandled, IsTaking, at_reads, at_writes, end_of};
+ghost use Rattle.operator_console.specs.Transcript.{TestsLast};
 
 use crate::comments::bad_text;
 use crate::finding::parts_at;

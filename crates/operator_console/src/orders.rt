@@ -3,7 +3,8 @@ ghost use Rattle.std.specs.Prelude.{◌≡◌, ◌≤◌, ℕ, List, Some};
 ghost use Rattle.world_traits.specs.Causes.{HasCause};
 ghost use Rattle.operator_console.specs.Orders.{IsInRange, IsOrder};
 ghost use Rattle.operator_console.specs.Deeds.{tests_of};
-ghost use Rattle.operator_console.specs.Handling.{IsHandled, IsRolled, IsShown, IsStopped, TestsLast, at_writes};
+ghost use Rattle.operator_console.specs.Handling.{IsHandled, IsRolled, IsShown, IsStopped, at_writes};
+ghost use Rattle.operator_console.specs.Transcript.{TestsLast};
 
 use crate::order::Order;
 use crate::rolled::write_rolled;

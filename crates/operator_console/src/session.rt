@@ -5,7 +5,8 @@ ghost use Rattle.world_traits.specs.Causes.{HasCause};
 ghost use Rattle.operator_console.specs.Deeds.{tests_of};
 ghost use Rattle.operator_console.specs.Transcript.{IsClosed, IsHeld, IsOver, IsTranscript, at_input, at_output};
 ghost use Rattle.operator_console.specs.Handling as handling;
-ghost use Rattle.operator_console.specs.Handling.{IsTaking, TestsLast, at_reads, at_writes};
+ghost use Rattle.operator_console.specs.Handling.{IsTaking, at_reads, at_writes};
+ghost use Rattle.operator_console.specs.Transcript.{TestsLast};
 
 use crate::lines::{Lines, take_piece, take_rest};
 use ledger_desk::Desk;

@@ -3,7 +3,8 @@ ghost use Rattle.std.specs.Prelude.{◌≡◌, ◌≤◌, ◌++◌, List};
 ghost use Rattle.ledger_desk.specs.Desk.{EntersNone};
 ghost use Rattle.operator_console.specs.Comments.{reply_line};
 ghost use Rattle.operator_console.specs.Deeds.{Told};
-ghost use Rattle.operator_console.specs.Handling.{AreTold, TestsLast, goals_text};
+ghost use Rattle.operator_console.specs.Handling.{AreTold, goals_text};
+ghost use Rattle.operator_console.specs.Transcript.{TestsLast};
 
 use crate::comments::{goal_text, reply_text};
 use fixed_list::FixedList;

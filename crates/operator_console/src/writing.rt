@@ -7,7 +7,8 @@ ghost use Rattle.plant_book.specs.Calls.{moment, named};
 ghost use Rattle.plant_book.specs.Answered.{IsInRange};
 ghost use Rattle.ledger_desk.specs.Calls.{IsBack};
 ghost use Rattle.ledger_desk.specs.Desk.{Enters, EntersNone};
-ghost use Rattle.operator_console.specs.Handling.{IsToldCall, TestsLast, at_writes};
+ghost use Rattle.operator_console.specs.Handling.{IsToldCall, at_writes};
+ghost use Rattle.operator_console.specs.Transcript.{TestsLast};
 
 use crate::comments::reply_text;
 use crate::session::ConsoleEnd;

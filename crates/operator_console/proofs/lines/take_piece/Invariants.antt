@@ -1,7 +1,8 @@
 use Rattle.std.proofs.Common.{◌≡◌, ◌≤◌, ◌++◌, ◌+◌, ℕ, List, length, Option}
 use Rattle.ledger_desk.specs.Desk.{DeskState}
 use Rattle.operator_console.specs.Deeds.{tests_of}
-use Rattle.operator_console.specs.Handling.{IsTaking, TestsLast}
+use Rattle.operator_console.specs.Handling.{IsTaking}
+use Rattle.operator_console.specs.Transcript.{TestsLast}
 use Rattle.operator_console.proofs.lines.take_piece.Given as goal
 
 abbrev pub invariant-loop-front : goal.invariant-loop-front

@@ -1,7 +1,8 @@
 use Rattle.std.proofs.Common.{◌≡◌, ◌≤◌, ◌+◌, ℕ, List, length}
 use Rattle.std.specs.Io.KnownBytes.{Consumes}
 use Rattle.operator_console.specs.Deeds.{tests_of}
-use Rattle.operator_console.specs.Handling.{IsTaking, TestsLast}
+use Rattle.operator_console.specs.Handling.{IsTaking}
+use Rattle.operator_console.specs.Transcript.{TestsLast}
 use Rattle.operator_console.proofs.session.read_lines.Given as goal
 
 abbrev pub invariant-loop-left : goal.invariant-loop-left

@@ -2,7 +2,8 @@ use Rattle.std.proofs.Common.{◌≡◌, ◌≤◌, ◌++◌, ◌+◌, ◌*◌, 
 use Rattle.ledger_desk.specs.Desk.{EntersNone}
 use Rattle.operator_console.specs.Comments.{reply_line}
 use Rattle.operator_console.specs.Deeds.{Told}
-use Rattle.operator_console.specs.Handling.{AreTold, TestsLast, goals_text}
+use Rattle.operator_console.specs.Handling.{AreTold, goals_text}
+use Rattle.operator_console.specs.Transcript.{TestsLast}
 use Rattle.operator_console.proofs.status.status_text.Given as goal
 
 abbrev pub invariant-loop-inverter : goal.invariant-loop-inverter
