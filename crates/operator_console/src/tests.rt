@@ -56,9 +56,10 @@ fn follow(
     Ok(Session { end, written, book })
 }
 
+/// What a status shows of such a plant with a cap of 10 kW: 5 kW are the share of each.
 const STATUS: &str = "# total 1200000
-# inverter 0 reserved 600000 goal 1000
-# inverter 1 reserved 600000 goal 1000
+# inverter 0 reserved 600000 goal 833
+# inverter 1 reserved 600000 goal 833
 ";
 
 /// Lines of an input with the room of a book, and what comes of them: the end, what is written, and the last book.
@@ -114,7 +115,13 @@ roll = rolled
         "",
     ),
     (1_000, "", ConsoleEnd::Ended, "", ""),
-    (1, "status\n", ConsoleEnd::Ended, STATUS, "tick 1 = total 1200000\n"),
+    (
+        1,
+        "status\n",
+        ConsoleEnd::Ended,
+        STATUS,
+        "tick 1 = total 1200000\n",
+    ),
     (
         1,
         "status\nstatus\nstop\n",
@@ -140,6 +147,102 @@ fn orders_become_calls_and_show_what_came_of_them(rt: HostRuntime) -> Result<(),
         assert_eq!(rt; session.end, end);
         assert_eq!(rt; str::from_utf8(&session.written)?, written);
         assert_eq!(rt; str::from_utf8(&session.book)?, book);
+    }
+    Ok(())
+}
+
+/// What the console writes by one write each of `want 0 1`, `roll` and `stop`, in the order of the writes.
+const PIECES: [&str; 5] = [
+    "# taken\n",
+    "site 10000000 1000 4000 60 20 500 fair 2
+inverter 6000 0 -1 100
+inverter 6000 0 -1 100
+begin 0
+",
+    "want 1 0 1 = taken\n",
+    "roll = rolled\n",
+    "# taken\n",
+];
+
+/// The last book where the write of this number fails. A Stop is entered, behind the one of the order too.
+const BOOKS: [&str; 5] = [
+    "want 1 0 1 = taken\nstop 2 = taken\n",
+    "stop 2 = taken\n",
+    "stop 2 = taken\n",
+    "stop 2 = taken\n",
+    "stop 2 = taken\nstop 3 = taken\n",
+];
+
+#[test]
+fn nothing_is_written_after_a_failed_write_and_a_stop_is_entered(
+    rt: HostRuntime,
+) -> Result<(), Fail> {
+    let alloc = rt.alloc();
+    for (failing, book) in BOOKS.iter().enumerate() {
+        let bytes = Vec::from_slice(alloc, b"want 0 1\nroll\nstop\n")?;
+        let writes = vec![in alloc; failing as u32]?;
+        let session = follow(&rt, alloc, 2, bytes, Vec::new(alloc), writes)?;
+        assert_eq!(rt; session.end, ConsoleEnd::WriteFault);
+        let mut written = String::new(alloc);
+        for piece in &PIECES[..failing] {
+            written.push_str(piece)?;
+        }
+        assert_eq!(rt; str::from_utf8(&session.written)?, written.as_str());
+        assert_eq!(rt; str::from_utf8(&session.book)?, *book);
+    }
+    Ok(())
+}
+
+/// The room, the lines, the number of the read that fails, and what is written and in the book then.
+const FAILED_READS: [(u32, &str, u32, &str, &str); 4] = [
+    (2, "status\n", 0, "", "stop 1 = taken\n"),
+    (
+        2,
+        "status\nsto",
+        1,
+        STATUS,
+        "tick 1 = total 1200000\nstop 2 = taken\n",
+    ),
+    (1, "status\n", 1, STATUS, "tick 1 = total 1200000\n"),
+    (
+        1,
+        "cap 1\nx\n",
+        1,
+        "# cap out 1200000 10000000\n# bad line 2\n",
+        "cap 1 1 = capout 1200000 10000000\n",
+    ),
+];
+
+#[test]
+fn whole_lines_are_done_before_the_input_is_read_on(rt: HostRuntime) -> Result<(), Fail> {
+    let alloc = rt.alloc();
+    for (room, lines, failing, written, book) in FAILED_READS {
+        let bytes = Vec::from_slice(alloc, lines.as_bytes())?;
+        let reads = vec![in alloc; failing]?;
+        let session = follow(&rt, alloc, room, bytes, reads, Vec::new(alloc))?;
+        assert_eq!(rt; session.end, ConsoleEnd::ReadFault);
+        assert_eq!(rt; str::from_utf8(&session.written)?, written);
+        assert_eq!(rt; str::from_utf8(&session.book)?, book);
+    }
+    Ok(())
+}
+
+/// How a console ends, and what it writes, over an input of so many bytes: a long line, and a stop at its end.
+const LENGTHS: [(usize, ConsoleEnd, &str); 3] = [
+    (1_048_575, ConsoleEnd::Stopped, "# bad line 1\n# taken\n"),
+    (1_048_576, ConsoleEnd::Stopped, "# bad line 1\n# taken\n"),
+    (1_048_577, ConsoleEnd::Ended, "# bad line 1\n# bad line 2\n"),
+];
+
+#[test]
+fn no_more_than_its_limit_is_read(rt: HostRuntime) -> Result<(), Fail> {
+    let alloc = rt.alloc();
+    for (length, end, written) in LENGTHS {
+        let mut bytes = vec![in alloc; b'x'; length - 5]?;
+        bytes.extend_from_slice(b"\nstop")?;
+        let session = follow(&rt, alloc, 1, bytes, Vec::new(alloc), Vec::new(alloc))?;
+        assert_eq!(rt; session.end, end);
+        assert_eq!(rt; str::from_utf8(&session.written)?, written);
     }
     Ok(())
 }
