@@ -5,7 +5,9 @@ use Rattle.plant_book.specs.declared.book.Entry.{Entry}
 use Rattle.std.specs.List.{flat_map}
 use Rattle.std.proofs.lemmas.List.{append-nil}
 use Rattle.std.proofs.lemmas.Grind.{flat_map-append}
-use Rattle.ledger_desk.specs.Desk.{DeskState, EntersNone, GoalsLast, LivesLast, RollsLast}
+use Rattle.plant_book.specs.Part.{PartRecord}
+use Rattle.plant_ledger.specs.declared.plant.Goal.{Goal}
+use Rattle.ledger_desk.specs.Desk.{DeskState, EntersNone}
 use Rattle.operator_console.specs.Orders.{IsLine}
 use Rattle.operator_console.specs.Deeds.{Deed, Entered, IsDeed, LifeFull, Passed, Refused, Rolled, Tests, deed_entries, deed_fronts, deed_rolls}
 use Rattle.operator_console.specs.Transcript.{AreDone, Done, IsDone, NeverFall, entries_of, fronts_of, rolls_of}
@@ -15,9 +17,9 @@ use Rattle.operator_console.proofs.Fronts.{fall_append, higher_last}
 -- what the desk's tests told before they tell now
 pub record Lasts (old new : Tests) : Type 0 where
   pub given : (reading : ℕ) → old.may_give reading ≡ new.may_give reading
-  pub goals : GoalsLast old.may_tell new.may_tell
-  pub rolls : RollsLast old.ended new.ended
-  pub lives : LivesLast old.full_life new.full_life
+  pub goals : (made place inverter : ℕ) (goal : Goal) → old.may_tell made place inverter goal → new.may_tell made place inverter goal
+  pub rolls : (number : ℕ) (book : PartRecord) → old.ended number book → new.ended number book
+  pub lives : (calls : ℕ) → old.full_life calls → new.full_life calls
 
 -- where a list ends in an element, a place in it is that of the last, or one before
 abbrev pub Place : {X : Type 0} → (xs : List X) → X → (before : List X) → X → (behind : List X) → Type 0

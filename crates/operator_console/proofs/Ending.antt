@@ -2,12 +2,11 @@
 use Rattle.std.proofs.Common.{◌≡◌, ℕ, zero, suc, ◌<◌, List, [], ◌∷◌, ◌++◌, length, get_or, refl, ap, subst, ◌∙◌, arith, inl, inr, append_assoc}
 use Rattle.std.specs.Str.Iter.{LacksByte}
 use Rattle.operator_console.specs.Orders.{IsLine}
+use Rattle.ledger_desk.specs.Desk.{DeskTests, TestsLast}
 use Rattle.operator_console.specs.Deeds.{tests_of}
 use Rattle.operator_console.specs.Handling.{HasReturn}
-use Rattle.operator_console.specs.Transcript.{TestsLast}
 use Rattle.operator_console.proofs.Done.{Lasts}
 use Rattle.std.specs.Prelude.{Bool}
-use Rattle.ledger_desk.specs.Desk.{GoalTest, LifeTest, RollTest}
 
 -- no byte of a front is one that the whole lacks
 front_lacks : (byte : ℕ) (a b : List ℕ) (k : ℕ) → k < length a → LacksByte byte (a ++ b) → get_or a k 0 ≡ byte → ⊥
@@ -44,26 +43,24 @@ ends held line lacks (inr (is, alone)) =
     }
 
 -- the tests of a desk over a call, at one clock
-pub lasts : (may_give : ℕ → Bool) (may_tell may_tell_now : GoalTest) (was_full was_full_now : Type 0) (ended ended_now : RollTest) (full_life full_life_now : LifeTest)
-    → TestsLast may_tell may_tell_now was_full was_full_now ended ended_now full_life full_life_now
-    → Lasts (tests_of may_give may_tell ended full_life) (tests_of may_give may_tell_now ended_now full_life_now)
-lasts may_give may_tell may_tell_now was_full was_full_now ended ended_now full_life full_life_now last = record {
+pub lasts : (may_give : ℕ → Bool) (old new : DeskTests) → TestsLast old new → Lasts (tests_of may_give old) (tests_of may_give new)
+lasts may_give old new last = record {
   given = λ reading. refl;
   goals = last.goals;
   rolls = last.rolls;
   lives = last.lives;
 }
 
-pub last_again : (a b c : GoalTest) (fa fb fc : Type 0) (ea eb ec : RollTest) (la lb lc : LifeTest) → TestsLast a b fa fb ea eb la lb → TestsLast b c fb fc eb ec lb lc → TestsLast a c fa fc ea ec la lc
-last_again a b c fa fb fc ea eb ec la lb lc first second = record {
+pub last_again : (a b c : DeskTests) → TestsLast a b → TestsLast b c → TestsLast a c
+last_again a b c first second = record {
   goals = λ made place inverter goal is. second.goals made place inverter goal (first.goals made place inverter goal is);
   full = λ is. second.full (first.full is);
   rolls = λ number book is. second.rolls number book (first.rolls number book is);
   lives = λ calls is. second.lives calls (first.lives calls is);
 }
 
-pub last_same : (a : GoalTest) (f : Type 0) (e : RollTest) (l : LifeTest) → TestsLast a a f f e e l l
-last_same a f e l = record { goals = λ made place inverter goal is. is; full = λ is. is; rolls = λ number book is. is; lives = λ calls is. is }
+pub last_same : (tests : DeskTests) → TestsLast tests tests
+last_same tests = record { goals = λ made place inverter goal is. is; full = λ is. is; rolls = λ number book is. is; lives = λ calls is. is }
 
 lacks_cons : (byte x : ℕ) (xs : List ℕ) → (x ≡ byte → ⊥) → LacksByte byte xs → LacksByte byte (x ∷ xs)
 lacks_cons byte x xs head tail zero below is = head is

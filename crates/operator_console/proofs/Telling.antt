@@ -6,7 +6,7 @@ use Rattle.std.proofs.lemmas.List.{map-append, append-nil}
 use Rattle.std.proofs.lemmas.List.Elements.{All-append, All-cons, All-nil}
 use Rattle.std.proofs.lemmas.Grind.{flat_map-append}
 use Rattle.plant_ledger.specs.declared.plant.Goal.{Goal}
-use Rattle.ledger_desk.specs.Desk.{DeskState, GoalTest, GoalsLast, EntersNone}
+use Rattle.ledger_desk.specs.Desk.{DeskState, GoalTest, EntersNone}
 use Rattle.operator_console.specs.Comments.{goal_line}
 use Rattle.operator_console.specs.Deeds.{Told}
 use Rattle.operator_console.specs.Transcript.{NeverFall}
@@ -40,7 +40,7 @@ none_entered a = record { made = refl; front = omega arith; inverters = refl; ro
 
 -- one goal more
 pub told_more : (may_tell may_tell_now : GoalTest) (n : ℕ) (old mid new : DeskState) (told : List Told) (goal : Goal)
-    → AreTold may_tell n old mid told → GoalsLast may_tell may_tell_now → EntersNone old mid → EntersNone mid new
+    → AreTold may_tell n old mid told → ((made place inverter : ℕ) (goal : Goal) → may_tell made place inverter goal → may_tell_now made place inverter goal) → EntersNone old mid → EntersNone mid new
     → may_tell_now (length new.made) new.front n goal
     → AreTold may_tell_now (n + 1) old new (told ++ record { inverter = n; front = new.front; goal = goal } ∷ [])
 told_more may_tell may_tell_now n old mid new told goal are last none next now =

@@ -8,7 +8,7 @@ use Rattle.plant_book.specs.Calls.{moment, at_moment}
 use Rattle.plant_book.specs.Part.{PartRecord}
 use Rattle.plant_ledger.specs.declared.plant.Goal.{Goal}
 use Rattle.ledger_desk.specs.Calls.{IsReplyTo}
-use Rattle.ledger_desk.specs.Desk.{GoalTest, RollTest, LifeTest}
+use Rattle.ledger_desk.specs.Desk.{GoalTest, RollTest, LifeTest, DeskTests}
 use Rattle.operator_console.specs.declared.order.Order.{Order}
 use Rattle.operator_console.specs.declared.order.Order.TheVariants as orders
 use Rattle.operator_console.specs.Orders.{IsOrder, call_of, asked_by}
@@ -62,9 +62,9 @@ pub record Tests : Type 1 where
   pub ended : RollTest
   pub full_life : LifeTest
 
-abbrev pub tests_of : (ℕ → Bool) → GoalTest → RollTest → LifeTest → Tests
-tests_of may_give may_tell ended full_life =
-    record { may_give = may_give; may_tell = may_tell; ended = ended; full_life = full_life }
+abbrev pub tests_of : (ℕ → Bool) → DeskTests → Tests
+tests_of may_give desk =
+    record { may_give = may_give; may_tell = desk.may_tell; ended = desk.ended; full_life = desk.was_full_life }
 
 -- the entry of a call: at its own moment or a later one, with a reply that it may have
 pub record IsEntryOf (call : Call) (entry : Entry) : Type 0 where

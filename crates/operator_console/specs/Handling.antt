@@ -7,7 +7,7 @@ use Rattle.plant_book.specs.declared.call.Call.{Call}
 use Rattle.plant_book.specs.declared.call.Call.TheVariants as calls
 use Rattle.plant_book.specs.declared.call.Reply.{Reply}
 use Rattle.plant_book.specs.Part.{PartRecord}
-use Rattle.ledger_desk.specs.Desk.{DeskState, GoalTest, RollTest, LifeTest, GoalsLast, RollsLast, LivesLast, AddsRoll, Enters, EntersNone}
+use Rattle.ledger_desk.specs.Desk.{DeskState, GoalTest, RollTest, LifeTest, AddsRoll, Enters, EntersNone}
 use Rattle.stream_io.specs.Streams.{AppendsFront}
 use Rattle.operator_console.specs.declared.order.Order.{Order}
 use Rattle.operator_console.specs.declared.session.ConsoleEnd.{ConsoleEnd}

@@ -7,8 +7,7 @@ use Rattle.std.specs.Str.Iter.{LacksByte}
 use Rattle.plant_book.specs.declared.call.Call.TheVariants as calls
 use Rattle.plant_book.specs.declared.call.Reply.TheVariants as replies
 use Rattle.plant_book.specs.declared.book.Entry.{Entry}
-use Rattle.ledger_desk.specs.Desk.{DeskState, EntersNone, Enters, GoalTest, RollTest, LifeTest}
-use Rattle.ledger_desk.specs.Desk.{GoalsLast, RollsLast, LivesLast}
+use Rattle.ledger_desk.specs.Desk.{DeskState, EntersNone, Enters}
 use Rattle.operator_console.specs.declared.order.Order.{Order}
 use Rattle.operator_console.specs.declared.session.ConsoleEnd.{ConsoleEnd}
 use Rattle.operator_console.specs.declared.session.ConsoleEnd.TheVariants as ends
@@ -136,14 +135,6 @@ IsClosed ends.BookFull may_give was_full old new = new ≡ old
 IsClosed _ may_give was_full old new =
     ((reading : ℕ) × IsTrue (may_give reading) × Enters (calls.Stop reading) replies.Taken old new)
     ⊎ (was_full × EntersNone old new)
-
--- what passed a test of the desk before passes it now
-pub record TestsLast (may_tell may_tell_now : GoalTest) (was_full was_full_now : Type 0) (ended ended_now : RollTest)
-    (full_life full_life_now : LifeTest) : Type 0 where
-  pub goals : GoalsLast may_tell may_tell_now
-  pub full : was_full → was_full_now
-  pub rolls : RollsLast ended ended_now
-  pub lives : LivesLast full_life full_life_now
 
 -- What an end says of the reads, and of the writes: one failed, or none.
 abbrev pub at_input : ConsoleEnd → Result (Unit {0}) (Unit {0})

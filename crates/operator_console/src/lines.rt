@@ -7,7 +7,7 @@ ghost use Rattle.operator_console.specs.Orders.{IsLine};
 ghost use Rattle.operator_console.specs.Transcript.{IsHeld, IsOver};
 ghost use Rattle.operator_console.specs.Deeds.{tests_of};
 ghost use Rattle.operator_console.specs.Handling.{HasReturn, IsHandled, IsTaking, at_reads, at_writes, end_of};
-ghost use Rattle.operator_console.specs.Transcript.{TestsLast};
+ghost use Rattle.ledger_desk.specs.Desk.{TestsLast};
 
 use crate::comments::bad_text;
 use crate::finding::parts_at;
@@ -45,11 +45,9 @@ pub(crate) fn follow_line<D: Desk, O: Sink, K: Clock>(
 ) -> Result<(), ConsoleEnd>
     requires few { inverters ≤ 64 }
     requires of_desk { inverters ≡ (D.state desk.old).inverters }
-    ensures handled { IsHandled result (tests_of (K.may_give clock.now) (D.may_tell desk.new) (D.ended desk.new)
-        (D.was_full_life desk.new)) (D.was_full desk.new) number line.now (D.state desk.old) (D.state desk.new)
+    ensures handled { IsHandled result (tests_of (K.may_give clock.now) (D.tests desk.new)) (D.tests desk.new).was_full number line.now (D.state desk.old) (D.state desk.new)
         (O.taken out.old) (O.taken out.new) }
-    ensures last { TestsLast (D.may_tell desk.old) (D.may_tell desk.new) (D.was_full desk.old) (D.was_full desk.new)
-        (D.ended desk.old) (D.ended desk.new) (D.was_full_life desk.old) (D.was_full_life desk.new) }
+    ensures last { TestsLast (D.tests desk.old) (D.tests desk.new) }
     ensures kept { D.kept desk.new ≡ D.kept desk.old }
     ensures cause { HasCause (O.faults out.old) (O.faults out.new) (at_writes result) }
     ensures stops { O.faults out.old ≡ 0 → O.late out.new ≡ O.late out.old }
@@ -106,26 +104,21 @@ fn follow_held<D: Desk, O: Sink, K: Clock>(
     requires of_desk { lines.old.inverters ≡ (D.state desk.old).inverters }
     requires room { lines.old.number + 1 < 2 ^ 32 }
     ensures goes_on { OnOk result ((begun : DeskState) (told : Option (List ℕ)) (read : List ℕ) → IsTaking
-        (tests_of (K.may_give clock.now) (D.may_tell desk.old) (D.ended desk.old)
-        (D.was_full_life desk.old)) begun (D.state desk.old) told (O.taken out.old) read lines.old.number
+        (tests_of (K.may_give clock.now) (D.tests desk.old)) begun (D.state desk.old) told (O.taken out.old) read lines.old.number
         lines.old.held.items → IsTaking
-        (tests_of (K.may_give clock.now) (D.may_tell desk.new) (D.ended desk.new)
-        (D.was_full_life desk.new)) begun (D.state desk.new) told (O.taken out.new) (read ++ 10 ∷ [])
+        (tests_of (K.may_give clock.now) (D.tests desk.new)) begun (D.state desk.new) told (O.taken out.new) (read ++ 10 ∷ [])
         lines.new.number lines.new.held.items) }
     ensures ends { IfErr result (λ end. (begun : DeskState) (told : Option (List ℕ)) (read behind : List ℕ)
         (left : Option (List ℕ)) → IsTaking
-        (tests_of (K.may_give clock.now) (D.may_tell desk.old) (D.ended desk.old)
-        (D.was_full_life desk.old)) begun (D.state desk.old) told (O.taken out.old) read lines.old.number
+        (tests_of (K.may_give clock.now) (D.tests desk.old)) begun (D.state desk.old) told (O.taken out.old) read lines.old.number
         lines.old.held.items → IsHeld end
-        (tests_of (K.may_give clock.now) (D.may_tell desk.new) (D.ended desk.new)
-        (D.was_full_life desk.new)) (D.was_full desk.new) begun (D.state desk.new) (read ++ 10 ∷ behind) left told
+        (tests_of (K.may_give clock.now) (D.tests desk.new)) (D.tests desk.new).was_full begun (D.state desk.new) (read ++ 10 ∷ behind) left told
         (O.taken out.new)) }
     ensures desk { OnOk result ((D.state desk.new).inverters ≡ (D.state desk.old).inverters) }
     ensures empty { OnOk result (lines.new.held.items ≡ []) }
     ensures number { lines.new.number ≡ lines.old.number + 1 }
     ensures inverters { lines.new.inverters ≡ lines.old.inverters }
-    ensures last { TestsLast (D.may_tell desk.old) (D.may_tell desk.new) (D.was_full desk.old) (D.was_full desk.new)
-        (D.ended desk.old) (D.ended desk.new) (D.was_full_life desk.old) (D.was_full_life desk.new) }
+    ensures last { TestsLast (D.tests desk.old) (D.tests desk.new) }
     ensures kept { D.kept desk.new ≡ D.kept desk.old }
     ensures reads { at_reads result ≡ Ok tt }
     ensures cause { HasCause (O.faults out.old) (O.faults out.new) (at_writes result) }
@@ -151,25 +144,20 @@ pub(crate) fn take_piece<D: Desk, O: Sink, K: Clock>(
     requires of_desk { lines.old.inverters ≡ (D.state desk.old).inverters }
     requires room { lines.old.number + length piece.now < 2 ^ 32 }
     ensures goes_on { OnOk result ((begun : DeskState) (told : Option (List ℕ)) (read : List ℕ) → IsTaking
-        (tests_of (K.may_give clock.now) (D.may_tell desk.old) (D.ended desk.old)
-        (D.was_full_life desk.old)) begun (D.state desk.old) told (O.taken out.old) read lines.old.number
+        (tests_of (K.may_give clock.now) (D.tests desk.old)) begun (D.state desk.old) told (O.taken out.old) read lines.old.number
         lines.old.held.items → IsTaking
-        (tests_of (K.may_give clock.now) (D.may_tell desk.new) (D.ended desk.new)
-        (D.was_full_life desk.new)) begun (D.state desk.new) told (O.taken out.new) (read ++ piece.now)
+        (tests_of (K.may_give clock.now) (D.tests desk.new)) begun (D.state desk.new) told (O.taken out.new) (read ++ piece.now)
         lines.new.number lines.new.held.items) }
     ensures ends { IfErr result (λ end. (begun : DeskState) (told : Option (List ℕ)) (read : List ℕ)
         (left : Option (List ℕ)) → IsTaking
-        (tests_of (K.may_give clock.now) (D.may_tell desk.old) (D.ended desk.old)
-        (D.was_full_life desk.old)) begun (D.state desk.old) told (O.taken out.old) read lines.old.number
+        (tests_of (K.may_give clock.now) (D.tests desk.old)) begun (D.state desk.old) told (O.taken out.old) read lines.old.number
         lines.old.held.items → IsHeld end
-        (tests_of (K.may_give clock.now) (D.may_tell desk.new) (D.ended desk.new)
-        (D.was_full_life desk.new)) (D.was_full desk.new) begun (D.state desk.new) (read ++ piece.now) left told
+        (tests_of (K.may_give clock.now) (D.tests desk.new)) (D.tests desk.new).was_full begun (D.state desk.new) (read ++ piece.now) left told
         (O.taken out.new)) }
     ensures desk { OnOk result ((D.state desk.new).inverters ≡ (D.state desk.old).inverters) }
     ensures number { lines.new.number ≤ lines.old.number + length piece.now }
     ensures inverters { lines.new.inverters ≡ lines.old.inverters }
-    ensures last { TestsLast (D.may_tell desk.old) (D.may_tell desk.new) (D.was_full desk.old) (D.was_full desk.new)
-        (D.ended desk.old) (D.ended desk.new) (D.was_full_life desk.old) (D.was_full_life desk.new) }
+    ensures last { TestsLast (D.tests desk.old) (D.tests desk.new) }
     ensures kept { D.kept desk.new ≡ D.kept desk.old }
     ensures reads { at_reads result ≡ Ok tt }
     ensures cause { HasCause (O.faults out.old) (O.faults out.new) (at_writes result) }
@@ -197,14 +185,11 @@ pub(crate) fn take_rest<D: Desk, O: Sink, K: Clock>(
     requires room { lines.now.number + 1 < 2 ^ 32 }
     ensures ended { (begun : DeskState) (told : Option (List ℕ)) (read : List ℕ) (left : Option (List ℕ))
         → IsOver read left → IsTaking
-        (tests_of (K.may_give clock.now) (D.may_tell desk.old) (D.ended desk.old)
-        (D.was_full_life desk.old)) begun (D.state desk.old) told (O.taken out.old) read lines.now.number
+        (tests_of (K.may_give clock.now) (D.tests desk.old)) begun (D.state desk.old) told (O.taken out.old) read lines.now.number
         lines.now.held.items → IsHeld (end_of result)
-        (tests_of (K.may_give clock.now) (D.may_tell desk.new) (D.ended desk.new)
-        (D.was_full_life desk.new)) (D.was_full desk.new) begun (D.state desk.new) read left told
+        (tests_of (K.may_give clock.now) (D.tests desk.new)) (D.tests desk.new).was_full begun (D.state desk.new) read left told
         (O.taken out.new) }
-    ensures last { TestsLast (D.may_tell desk.old) (D.may_tell desk.new) (D.was_full desk.old) (D.was_full desk.new)
-        (D.ended desk.old) (D.ended desk.new) (D.was_full_life desk.old) (D.was_full_life desk.new) }
+    ensures last { TestsLast (D.tests desk.old) (D.tests desk.new) }
     ensures kept { D.kept desk.new ≡ D.kept desk.old }
     ensures reads { at_reads result ≡ Ok tt }
     ensures cause { HasCause (O.faults out.old) (O.faults out.new) (at_writes result) }

@@ -4,7 +4,7 @@ ghost use Rattle.world_traits.specs.Causes.{HasCause};
 ghost use Rattle.operator_console.specs.Orders.{IsInRange, IsOrder};
 ghost use Rattle.operator_console.specs.Deeds.{tests_of};
 ghost use Rattle.operator_console.specs.Handling.{IsHandled, IsRolled, IsShown, IsStopped, at_writes};
-ghost use Rattle.operator_console.specs.Transcript.{TestsLast};
+ghost use Rattle.ledger_desk.specs.Desk.{TestsLast};
 
 use crate::order::Order;
 use crate::rolled::write_rolled;
@@ -30,11 +30,9 @@ pub(crate) fn follow_order<D: Desk, O: Sink, K: Clock>(
     requires of_desk { inverters ≡ (D.state desk.old).inverters }
     requires in_range { IsInRange inverters order }
     ensures handled { (number : ℕ) (line : List ℕ) → IsOrder inverters line order
-        → IsHandled result (tests_of (K.may_give clock.now) (D.may_tell desk.new) (D.ended desk.new)
-        (D.was_full_life desk.new)) (D.was_full desk.new) number line (D.state desk.old) (D.state desk.new)
+        → IsHandled result (tests_of (K.may_give clock.now) (D.tests desk.new)) (D.tests desk.new).was_full number line (D.state desk.old) (D.state desk.new)
         (O.taken out.old) (O.taken out.new) }
-    ensures last { TestsLast (D.may_tell desk.old) (D.may_tell desk.new) (D.was_full desk.old) (D.was_full desk.new)
-        (D.ended desk.old) (D.ended desk.new) (D.was_full_life desk.old) (D.was_full_life desk.new) }
+    ensures last { TestsLast (D.tests desk.old) (D.tests desk.new) }
     ensures kept { D.kept desk.new ≡ D.kept desk.old }
     ensures cause { HasCause (O.faults out.old) (O.faults out.new) (at_writes result) }
     ensures stops { O.faults out.old ≡ 0 → O.late out.new ≡ O.late out.old }
@@ -64,10 +62,9 @@ fn show_status<D: Desk, O: Sink>(
     requires moment { at ≤ 1000000000000000 }
     requires few { inverters ≤ 64 }
     requires of_desk { inverters ≡ (D.state desk.old).inverters }
-    ensures shown { IsShown result (D.may_tell desk.new) (D.was_full desk.new) at (D.state desk.old)
+    ensures shown { IsShown result (D.tests desk.new).may_tell (D.tests desk.new).was_full at (D.state desk.old)
         (D.state desk.new) (O.taken out.old) (O.taken out.new) }
-    ensures last { TestsLast (D.may_tell desk.old) (D.may_tell desk.new) (D.was_full desk.old) (D.was_full desk.new)
-        (D.ended desk.old) (D.ended desk.new) (D.was_full_life desk.old) (D.was_full_life desk.new) }
+    ensures last { TestsLast (D.tests desk.old) (D.tests desk.new) }
     ensures kept { D.kept desk.new ≡ D.kept desk.old }
     ensures cause { HasCause (O.faults out.old) (O.faults out.new) (at_writes result) }
     ensures stops { O.faults out.old ≡ 0 → O.late out.new ≡ O.late out.old }
@@ -80,10 +77,9 @@ fn show_status<D: Desk, O: Sink>(
 /// Enters a Stop at a moment in ms. Behind the line of its reply the console ends.
 fn stop<D: Desk, O: Sink>(at: u64, desk: &mut D, out: &mut O) -> Result<(), ConsoleEnd>
     requires { at ≤ 1000000000000000 }
-    ensures stopped { IsStopped result (D.was_full desk.new) at (D.state desk.old) (D.state desk.new)
+    ensures stopped { IsStopped result (D.tests desk.new).was_full at (D.state desk.old) (D.state desk.new)
         (O.taken out.old) (O.taken out.new) }
-    ensures last { TestsLast (D.may_tell desk.old) (D.may_tell desk.new) (D.was_full desk.old) (D.was_full desk.new)
-        (D.ended desk.old) (D.ended desk.new) (D.was_full_life desk.old) (D.was_full_life desk.new) }
+    ensures last { TestsLast (D.tests desk.old) (D.tests desk.new) }
     ensures kept { D.kept desk.new ≡ D.kept desk.old }
     ensures cause { HasCause (O.faults out.old) (O.faults out.new) (at_writes result) }
     ensures stops { O.faults out.old ≡ 0 → O.late out.new ≡ O.late out.old }
@@ -94,10 +90,9 @@ fn stop<D: Desk, O: Sink>(at: u64, desk: &mut D, out: &mut O) -> Result<(), Cons
 
 /// Rolls the book and writes its text, or shows that the life is full.
 fn roll<D: Desk, O: Sink>(alloc: Global, desk: &mut D, out: &mut O) -> Result<(), ConsoleEnd>
-    ensures rolled { IsRolled result (D.ended desk.new) (D.was_full_life desk.new) (D.state desk.old)
+    ensures rolled { IsRolled result (D.tests desk.new).ended (D.tests desk.new).was_full_life (D.state desk.old)
         (D.state desk.new) (O.taken out.old) (O.taken out.new) }
-    ensures last { TestsLast (D.may_tell desk.old) (D.may_tell desk.new) (D.was_full desk.old) (D.was_full desk.new)
-        (D.ended desk.old) (D.ended desk.new) (D.was_full_life desk.old) (D.was_full_life desk.new) }
+    ensures last { TestsLast (D.tests desk.old) (D.tests desk.new) }
     ensures kept { D.kept desk.new ≡ D.kept desk.old }
     ensures cause { HasCause (O.faults out.old) (O.faults out.new) (at_writes result) }
     ensures stops { O.faults out.old ≡ 0 → O.late out.new ≡ O.late out.old }

@@ -6,7 +6,7 @@ ghost use Rattle.operator_console.specs.Deeds.{tests_of};
 ghost use Rattle.operator_console.specs.Transcript.{IsClosed, IsHeld, IsOver, IsTranscript, at_input, at_output};
 ghost use Rattle.operator_console.specs.Handling as handling;
 ghost use Rattle.operator_console.specs.Handling.{IsTaking, at_reads, at_writes};
-ghost use Rattle.operator_console.specs.Transcript.{TestsLast};
+ghost use Rattle.ledger_desk.specs.Desk.{TestsLast};
 
 use crate::lines::{Lines, take_piece, take_rest};
 use ledger_desk::Desk;
@@ -54,8 +54,7 @@ pub fn console<D: Desk, C: Source, O: Sink, K: Clock>(
     requires of_desk { inverters ≡ (D.state desk.old).inverters }
 
     // What was done of the lines of the bytes read, what was written, and how it ended.
-    ensures transcript { IsTranscript result (tests_of (K.may_give clock.now) (D.may_tell desk.new) (D.ended desk.new)
-        (D.was_full_life desk.new)) (D.was_full desk.new) (D.state desk.old) (D.state desk.new)
+    ensures transcript { IsTranscript result (tests_of (K.may_give clock.now) (D.tests desk.new)) (D.tests desk.new).was_full (D.state desk.old) (D.state desk.new)
         (C.left input.old) (C.left input.new) (O.taken out.old) (O.taken out.new) }
 
     // A failed read and a failed write are answered exactly where one failed. After a write that failed nothing more is
@@ -65,8 +64,7 @@ pub fn console<D: Desk, C: Source, O: Sink, K: Clock>(
     ensures stops { O.faults out.old ≡ 0 → O.late out.new ≡ O.late out.old }
 
     // What passed a test of the desk passes it later too.
-    ensures last { TestsLast (D.may_tell desk.old) (D.may_tell desk.new) (D.was_full desk.old) (D.was_full desk.new)
-        (D.ended desk.old) (D.ended desk.new) (D.was_full_life desk.old) (D.was_full_life desk.new) }
+    ensures last { TestsLast (D.tests desk.old) (D.tests desk.new) }
     ensures kept { D.kept desk.new ≡ D.kept desk.old }
 {
     let end = follow(alloc, inverters, desk, input, out, clock);
@@ -86,14 +84,12 @@ fn follow<D: Desk, C: Source, O: Sink, K: Clock>(
     requires few { inverters ≤ 64 }
     requires of_desk { inverters ≡ (D.state desk.old).inverters }
     ensures held { (read : List ℕ) × Consumes (C.left input.old) (C.left input.new) read × (length read ≤ 1048576)
-        × IsHeld result (tests_of (K.may_give clock.now) (D.may_tell desk.new) (D.ended desk.new)
-        (D.was_full_life desk.new)) (D.was_full desk.new) (D.state desk.old) (D.state desk.new) read (C.left input.new)
+        × IsHeld result (tests_of (K.may_give clock.now) (D.tests desk.new)) (D.tests desk.new).was_full (D.state desk.old) (D.state desk.new) read (C.left input.new)
         (O.taken out.old) (O.taken out.new) }
     ensures input_faults { HasCause (C.faults input.old) (C.faults input.new) (at_input result) }
     ensures output_faults { HasCause (O.faults out.old) (O.faults out.new) (at_output result) }
     ensures stops { O.faults out.old ≡ 0 → O.late out.new ≡ O.late out.old }
-    ensures last { TestsLast (D.may_tell desk.old) (D.may_tell desk.new) (D.was_full desk.old) (D.was_full desk.new)
-        (D.ended desk.old) (D.ended desk.new) (D.was_full_life desk.old) (D.was_full_life desk.new) }
+    ensures last { TestsLast (D.tests desk.old) (D.tests desk.new) }
     ensures kept { D.kept desk.new ≡ D.kept desk.old }
 {
     let mut lines = Lines {
@@ -132,20 +128,17 @@ fn read_lines<D: Desk, C: Source, O: Sink, K: Clock>(
     requires held { lines.old.held.items ≡ [] }
     ensures over { OnOk result ((read : List ℕ) × Consumes (C.left input.old) (C.left input.new) read
         × (length read ≤ 1048576) × IsOver read (C.left input.new) × IsTaking
-        (tests_of (K.may_give clock.now) (D.may_tell desk.new) (D.ended desk.new)
-        (D.was_full_life desk.new)) (D.state desk.old) (D.state desk.new) (O.taken out.old) (O.taken out.new) read
+        (tests_of (K.may_give clock.now) (D.tests desk.new)) (D.state desk.old) (D.state desk.new) (O.taken out.old) (O.taken out.new) read
         lines.new.number lines.new.held.items) }
     ensures ends { IfErr result (λ end. (read : List ℕ) × Consumes (C.left input.old) (C.left input.new) read
         × (length read ≤ 1048576) × IsHeld end
-        (tests_of (K.may_give clock.now) (D.may_tell desk.new) (D.ended desk.new)
-        (D.was_full_life desk.new)) (D.was_full desk.new) (D.state desk.old) (D.state desk.new) read (C.left input.new)
+        (tests_of (K.may_give clock.now) (D.tests desk.new)) (D.tests desk.new).was_full (D.state desk.old) (D.state desk.new) read (C.left input.new)
         (O.taken out.old) (O.taken out.new)) }
     ensures desk { OnOk result ((D.state desk.new).inverters ≡ (D.state desk.old).inverters) }
     ensures number { lines.new.number ≤ 1048576 }
     ensures inverters { lines.new.inverters ≡ lines.old.inverters }
     ensures reads { HasCause (C.faults input.old) (C.faults input.new) (at_reads result) }
-    ensures last { TestsLast (D.may_tell desk.old) (D.may_tell desk.new) (D.was_full desk.old) (D.was_full desk.new)
-        (D.ended desk.old) (D.ended desk.new) (D.was_full_life desk.old) (D.was_full_life desk.new) }
+    ensures last { TestsLast (D.tests desk.old) (D.tests desk.new) }
     ensures kept { D.kept desk.new ≡ D.kept desk.old }
     ensures cause { HasCause (O.faults out.old) (O.faults out.new) (at_writes result) }
     ensures stops { O.faults out.old ≡ 0 → O.late out.new ≡ O.late out.old }
@@ -168,9 +161,8 @@ fn read_lines<D: Desk, C: Source, O: Sink, K: Clock>(
 
 /// Enters a Stop at a fault and at want of memory, where the book has room.
 fn close<D: Desk, K: Clock>(end: ConsoleEnd, desk: &mut D, clock: &K)
-    ensures closed { IsClosed end (K.may_give clock.now) (D.was_full desk.new) (D.state desk.old) (D.state desk.new) }
-    ensures last { TestsLast (D.may_tell desk.old) (D.may_tell desk.new) (D.was_full desk.old) (D.was_full desk.new)
-        (D.ended desk.old) (D.ended desk.new) (D.was_full_life desk.old) (D.was_full_life desk.new) }
+    ensures closed { IsClosed end (K.may_give clock.now) (D.tests desk.new).was_full (D.state desk.old) (D.state desk.new) }
+    ensures last { TestsLast (D.tests desk.old) (D.tests desk.new) }
     ensures kept { D.kept desk.new ≡ D.kept desk.old }
 {
     match end {

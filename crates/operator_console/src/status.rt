@@ -4,7 +4,7 @@ ghost use Rattle.ledger_desk.specs.Desk.{EntersNone};
 ghost use Rattle.operator_console.specs.Comments.{reply_line};
 ghost use Rattle.operator_console.specs.Deeds.{Told};
 ghost use Rattle.operator_console.specs.Handling.{AreTold, goals_text};
-ghost use Rattle.operator_console.specs.Transcript.{TestsLast};
+ghost use Rattle.ledger_desk.specs.Desk.{TestsLast};
 
 use crate::comments::{goal_text, reply_text};
 use fixed_list::FixedList;
@@ -22,10 +22,9 @@ pub(crate) fn status_text<D: Desk>(reply: &Reply, desk: &mut D, inverters: u32) 
     requires few { inverters ≤ 64 }
     requires of_desk { inverters ≡ (D.state desk.old).inverters }
     ensures told { (told : List Told) × (result ≡ reply_line reply.now ++ goals_text told)
-        × AreTold (D.may_tell desk.new) inverters (D.state desk.old) (D.state desk.new) told }
+        × AreTold (D.tests desk.new).may_tell inverters (D.state desk.old) (D.state desk.new) told }
     ensures none { EntersNone (D.state desk.old) (D.state desk.new) }
-    ensures last { TestsLast (D.may_tell desk.old) (D.may_tell desk.new) (D.was_full desk.old) (D.was_full desk.new)
-        (D.ended desk.old) (D.ended desk.new) (D.was_full_life desk.old) (D.was_full_life desk.new) }
+    ensures last { TestsLast (D.tests desk.old) (D.tests desk.new) }
     ensures kept { D.kept desk.new ≡ D.kept desk.old }
 {
     let mut text = StatusText::from_slice(reply_text(reply).as_slice());

@@ -8,7 +8,7 @@ ghost use Rattle.plant_book.specs.Answered.{IsInRange};
 ghost use Rattle.ledger_desk.specs.Calls.{IsBack};
 ghost use Rattle.ledger_desk.specs.Desk.{Enters, EntersNone};
 ghost use Rattle.operator_console.specs.Handling.{IsToldCall, at_writes};
-ghost use Rattle.operator_console.specs.Transcript.{TestsLast};
+ghost use Rattle.ledger_desk.specs.Desk.{TestsLast};
 
 use crate::comments::reply_text;
 use crate::session::ConsoleEnd;
@@ -39,10 +39,9 @@ pub(crate) fn enter<D: Desk>(desk: &mut D, call: Call) -> Result<Reply, ConsoleE
     requires in_range { IsInRange call }
     ensures entered { IfOk result (λ reply. Enters call reply (D.state desk.old) (D.state desk.new)) }
     ensures none { OnErr result (EntersNone (D.state desk.old) (D.state desk.new)) }
-    ensures full { OnErr result (D.was_full desk.new) }
+    ensures full { OnErr result (D.tests desk.new).was_full }
     ensures failed { IfErr result (λ end. end ≡ ConsoleEnd.BookFull) }
-    ensures last { TestsLast (D.may_tell desk.old) (D.may_tell desk.new) (D.was_full desk.old) (D.was_full desk.new)
-        (D.ended desk.old) (D.ended desk.new) (D.was_full_life desk.old) (D.was_full_life desk.new) }
+    ensures last { TestsLast (D.tests desk.old) (D.tests desk.new) }
     ensures kept { D.kept desk.new ≡ D.kept desk.old }
 {
     match desk.call(call) {
@@ -61,10 +60,9 @@ pub(crate) fn tell_call<D: Desk, O: Sink>(
     requires moment { moment call ≤ 1000000000000000 }
     requires of_desk { IfSome (named call) (λ inverter. inverter < (D.state desk.old).inverters) }
     requires in_range { IsInRange call }
-    ensures told { IsToldCall result (D.was_full desk.new) call (D.state desk.old) (D.state desk.new)
+    ensures told { IsToldCall result (D.tests desk.new).was_full call (D.state desk.old) (D.state desk.new)
         (O.taken out.old) (O.taken out.new) }
-    ensures last { TestsLast (D.may_tell desk.old) (D.may_tell desk.new) (D.was_full desk.old) (D.was_full desk.new)
-        (D.ended desk.old) (D.ended desk.new) (D.was_full_life desk.old) (D.was_full_life desk.new) }
+    ensures last { TestsLast (D.tests desk.old) (D.tests desk.new) }
     ensures kept { D.kept desk.new ≡ D.kept desk.old }
     ensures cause { HasCause (O.faults out.old) (O.faults out.new) (at_writes result) }
     ensures stops { O.faults out.old ≡ 0 → O.late out.new ≡ O.late out.old }

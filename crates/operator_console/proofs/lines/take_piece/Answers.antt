@@ -38,7 +38,7 @@ loop-front-preserved g c =
             (piece_held _ begun _ told _ read before.0 front _ _ _ _ c.in_ok-hold.ensures.number c.in_ok-hold.ensures.held c.in-Some.ensures.1 (before.2 begun told read taking)))),
         omega (arith, long, number, followed.number, before.3),
       ),
-      last_again _ _ _ _ _ _ _ _ _ _ _ _ invariant.1 followed.last,
+      last_again _ _ _ invariant.1 followed.last,
       followed.kept ∙ invariant.2,
       c.in_ok-follow_held.ensures.desk ∙ invariant.3,
       followed.inverters ∙ c.hold.ensures.inverters ∙ invariant.4,

@@ -2,21 +2,19 @@ use Rattle.std.proofs.Common.{◌≡◌, ◌≤◌, ◌++◌, ◌+◌, ℕ, List
 use Rattle.ledger_desk.specs.Desk.{DeskState}
 use Rattle.operator_console.specs.Deeds.{tests_of}
 use Rattle.operator_console.specs.Handling.{IsTaking}
-use Rattle.operator_console.specs.Transcript.{TestsLast}
+use Rattle.ledger_desk.specs.Desk.{TestsLast}
 use Rattle.operator_console.proofs.lines.take_piece.Given as goal
 
 abbrev pub invariant-loop-front : goal.invariant-loop-front
 invariant-loop-front g l =
     ((before : List ℕ) × (l.piece ≡ before ++ l.rest)
     × ((begun : DeskState) (told : Option (List ℕ)) (read : List ℕ) → IsTaking
-    (tests_of (g.K.Clock.may_give l.clock) (g.D.Desk.may_tell l.initial.desk) (g.D.Desk.ended l.initial.desk) (g.D.Desk.was_full_life l.initial.desk))
+    (tests_of (g.K.Clock.may_give l.clock) (g.D.Desk.tests l.initial.desk))
     begun (g.D.Desk.state l.initial.desk) told (g.O.Sink.taken l.initial.out) read l.initial.lines.number l.initial.lines.held.items
-    → IsTaking (tests_of (g.K.Clock.may_give l.clock) (g.D.Desk.may_tell l.desk) (g.D.Desk.ended l.desk) (g.D.Desk.was_full_life l.desk))
+    → IsTaking (tests_of (g.K.Clock.may_give l.clock) (g.D.Desk.tests l.desk))
     begun (g.D.Desk.state l.desk) told (g.O.Sink.taken l.out) (read ++ before) l.lines.number l.lines.held.items)
     × (l.lines.number ≤ l.initial.lines.number + length before))
-    × TestsLast (g.D.Desk.may_tell l.initial.desk) (g.D.Desk.may_tell l.desk) (g.D.Desk.was_full l.initial.desk)
-    (g.D.Desk.was_full l.desk) (g.D.Desk.ended l.initial.desk) (g.D.Desk.ended l.desk)
-    (g.D.Desk.was_full_life l.initial.desk) (g.D.Desk.was_full_life l.desk)
+    × TestsLast (g.D.Desk.tests l.initial.desk) (g.D.Desk.tests l.desk)
     × (g.D.Desk.kept l.desk ≡ g.D.Desk.kept l.initial.desk)
     × ((g.D.Desk.state l.desk).inverters ≡ (g.D.Desk.state l.initial.desk).inverters)
     × (l.lines.inverters ≡ l.initial.lines.inverters)

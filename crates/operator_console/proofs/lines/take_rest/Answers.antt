@@ -18,10 +18,10 @@ returns-clause-ended g c =
     grind (arith, nat_tests, zero, c.is_empty.ensures, c.if-is_empty.false)
     in
     let P : List ℕ → Type 0 = λ l. IsHandled c.follow_line.result
-    (tests_of (g.K.Clock.may_give c.args.clock.now) (g.D.Desk.may_tell c.follow_line.new.desk) (g.D.Desk.ended c.follow_line.new.desk) (g.D.Desk.was_full_life c.follow_line.new.desk))
-    (g.D.Desk.was_full c.follow_line.new.desk) (c.args.lines.now.number + 1) l (g.D.Desk.state c.args.desk.now) (g.D.Desk.state c.follow_line.new.desk)
+    (tests_of (g.K.Clock.may_give c.args.clock.now) (g.D.Desk.tests c.follow_line.new.desk))
+    (g.D.Desk.tests c.follow_line.new.desk).was_full (c.args.lines.now.number + 1) l (g.D.Desk.state c.args.desk.now) (g.D.Desk.state c.follow_line.new.desk)
     (g.O.Sink.taken c.args.out.now) (g.O.Sink.taken c.follow_line.new.out) in
-    last_held c.follow_line.result _ _ _ _ _ _ _ _ _ (lasts _ _ _ _ _ _ _ _ _ c.follow_line.ensures.last) some (subst P c.deref.ensures.value c.follow_line.ensures.handled)
+    last_held c.follow_line.result _ _ _ _ _ _ _ _ _ (lasts _ _ _ c.follow_line.ensures.last) some (subst P c.deref.ensures.value c.follow_line.ensures.handled)
 
 pub returns-clause-reads : goal.returns-clause-reads
 returns-clause-reads g c = handled_reads c.follow_line.result _ _ _ _ _ _ _ _ c.follow_line.ensures.handled

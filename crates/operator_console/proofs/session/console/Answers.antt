@@ -10,6 +10,6 @@ returns-clause-transcript g c =
       bytes = held.1;
       within = held.2;
       desk = g.D.Desk.state c.follow-end.new.desk;
-      held = held_later c.follow-end.result _ _ _ _ _ _ held.0 _ _ _ (lasts _ _ _ _ _ _ _ _ _ c.close.ensures.last) c.close.ensures.last.full held.3;
+      held = held_later c.follow-end.result _ _ _ _ _ _ held.0 _ _ _ (lasts _ _ _ c.close.ensures.last) c.close.ensures.last.full held.3;
       closed = c.close.ensures.closed;
     }

@@ -13,11 +13,11 @@ pub loop-left-init : goal.loop-left-init
 loop-left-init g c =
     let desk = g.D.Desk.state c.args.desk.now in
     let told = g.O.Sink.taken c.args.out.now in
-    let tests = tests_of (g.K.Clock.may_give c.args.clock.now) (g.D.Desk.may_tell c.args.desk.now) (g.D.Desk.ended c.args.desk.now) (g.D.Desk.was_full_life c.args.desk.now) in
+    let tests = tests_of (g.K.Clock.may_give c.args.clock.now) (g.D.Desk.tests c.args.desk.now) in
     let N : ℕ → Type 0 = λ n. IsTaking tests desk desk told told [] n [] in
     let H : List ℕ → Type 0 = λ l. IsTaking tests desk desk told told [] c.args.lines.now.number l in (
       ([], Consumes-nil (g.C.Source.left c.args.input.now), omega arith, subst H (sym c.requires.held) (subst N (sym c.requires.number) (none_taken tests desk told))),
-      last_same _ _ _ _,
+      last_same _,
       refl,
       refl,
       refl,
@@ -40,8 +40,8 @@ returns-in_err-take_piece-clause-ends g c =
     let few : c.in-Ok.count ≤ c.loop-left.left = omega (arith, room, size_of, length-take c.min-room.result c.loop-left.piece, bound.0) in
     let long : length (so_far.0 ++ got) ≡ length so_far.0 + length got = length-append so_far.0 got in
     let P : List ℕ → Type 0 = λ l. IsHeld c.in_err-take_piece.field-0.0
-    (tests_of (g.K.Clock.may_give c.args.clock.now) (g.D.Desk.may_tell c.take_piece.new.desk) (g.D.Desk.ended c.take_piece.new.desk) (g.D.Desk.was_full_life c.take_piece.new.desk))
-    (g.D.Desk.was_full c.take_piece.new.desk) (g.D.Desk.state c.args.desk.now) (g.D.Desk.state c.take_piece.new.desk) (so_far.0 ++ l) (g.C.Source.left c.read.new.self)
+    (tests_of (g.K.Clock.may_give c.args.clock.now) (g.D.Desk.tests c.take_piece.new.desk))
+    (g.D.Desk.tests c.take_piece.new.desk).was_full (g.D.Desk.state c.args.desk.now) (g.D.Desk.state c.take_piece.new.desk) (so_far.0 ++ l) (g.C.Source.left c.read.new.self)
     (g.O.Sink.taken c.args.out.now) (g.O.Sink.taken c.take_piece.new.out) in
     rw (p.1, p.2) (
       so_far.0 ++ got,
@@ -70,7 +70,7 @@ loop-left-preserved g c =
     let size : length (take c.in-Ok.count (given ++ drop c.min-room.result c.loop-left.piece)) ≡ length got = ap length same in
     let taken = c.take_piece.ensures in
     let P : List ℕ → Type 0 = λ l. IsTaking
-    (tests_of (g.K.Clock.may_give c.args.clock.now) (g.D.Desk.may_tell c.take_piece.new.desk) (g.D.Desk.ended c.take_piece.new.desk) (g.D.Desk.was_full_life c.take_piece.new.desk))
+    (tests_of (g.K.Clock.may_give c.args.clock.now) (g.D.Desk.tests c.take_piece.new.desk))
     (g.D.Desk.state c.args.desk.now) (g.D.Desk.state c.take_piece.new.desk) (g.O.Sink.taken c.args.out.now) (g.O.Sink.taken c.take_piece.new.out) (so_far.0 ++ l)
     c.take_piece.new.lines.number c.take_piece.new.lines.held.items in (
       (
@@ -79,7 +79,7 @@ loop-left-preserved g c =
         omega (arith, long, so_far.2, few, bound.1),
         subst P same (c.in_ok-take_piece.ensures.goes_on _ _ so_far.0 so_far.3),
       ),
-      last_again _ _ _ _ _ _ _ _ _ _ _ _ invariant.1 taken.last,
+      last_again _ _ _ invariant.1 taken.last,
       taken.kept ∙ invariant.2,
       c.in_ok-take_piece.ensures.desk ∙ invariant.3,
       taken.inverters ∙ invariant.4,

@@ -2,17 +2,15 @@ use Rattle.std.proofs.Common.{◌≡◌, ◌≤◌, ◌+◌, ℕ, List, length}
 use Rattle.std.specs.Io.KnownBytes.{Consumes}
 use Rattle.operator_console.specs.Deeds.{tests_of}
 use Rattle.operator_console.specs.Handling.{IsTaking}
-use Rattle.operator_console.specs.Transcript.{TestsLast}
+use Rattle.ledger_desk.specs.Desk.{TestsLast}
 use Rattle.operator_console.proofs.session.read_lines.Given as goal
 
 abbrev pub invariant-loop-left : goal.invariant-loop-left
 invariant-loop-left g l =
     ((read : List ℕ) × Consumes (g.C.Source.left l.initial.input) (g.C.Source.left l.input) read × (length read + l.left ≡ 1048576)
-    × IsTaking (tests_of (g.K.Clock.may_give l.clock) (g.D.Desk.may_tell l.desk) (g.D.Desk.ended l.desk) (g.D.Desk.was_full_life l.desk))
+    × IsTaking (tests_of (g.K.Clock.may_give l.clock) (g.D.Desk.tests l.desk))
     (g.D.Desk.state l.initial.desk) (g.D.Desk.state l.desk) (g.O.Sink.taken l.initial.out) (g.O.Sink.taken l.out) read l.lines.number l.lines.held.items)
-    × TestsLast (g.D.Desk.may_tell l.initial.desk) (g.D.Desk.may_tell l.desk) (g.D.Desk.was_full l.initial.desk)
-    (g.D.Desk.was_full l.desk) (g.D.Desk.ended l.initial.desk) (g.D.Desk.ended l.desk)
-    (g.D.Desk.was_full_life l.initial.desk) (g.D.Desk.was_full_life l.desk)
+    × TestsLast (g.D.Desk.tests l.initial.desk) (g.D.Desk.tests l.desk)
     × (g.D.Desk.kept l.desk ≡ g.D.Desk.kept l.initial.desk)
     × ((g.D.Desk.state l.desk).inverters ≡ (g.D.Desk.state l.initial.desk).inverters)
     × (l.lines.inverters ≡ l.initial.lines.inverters)

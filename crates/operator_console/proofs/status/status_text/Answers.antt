@@ -22,14 +22,14 @@ loop-inverter-preserved g c =
       (
         before.0.0 ++ one ∷ [],
         added ∙ text ∙ ap (λ (t : List ℕ). reply_line c.args.reply.now ++ t) goals,
-        told_more _ _ n desk mid now before.0.0 c.goal-goal.result before.0.2 c.goal-goal.ensures.goals_last before.1 c.goal-goal.ensures.none c.goal-goal.ensures.told,
+        told_more _ _ n desk mid now before.0.0 c.goal-goal.result before.0.2 c.goal-goal.ensures.last.goals before.1 c.goal-goal.ensures.none c.goal-goal.ensures.told,
       ),
       none_again desk mid now before.1 c.goal-goal.ensures.none,
       record {
-        goals = λ a b d e is. c.goal-goal.ensures.goals_last a b d e (before.2.goals a b d e is);
-        full = λ is. c.goal-goal.ensures.full_lasts (before.2.full is);
-        rolls = λ a b is. c.goal-goal.ensures.rolls_last a b (before.2.rolls a b is);
-        lives = λ a is. c.goal-goal.ensures.lives_last a (before.2.lives a is);
+        goals = λ a b d e is. c.goal-goal.ensures.last.goals a b d e (before.2.goals a b d e is);
+        full = λ is. c.goal-goal.ensures.last.full (before.2.full is);
+        rolls = λ a b is. c.goal-goal.ensures.last.rolls a b (before.2.rolls a b is);
+        lives = λ a is. c.goal-goal.ensures.last.lives a (before.2.lives a is);
       },
       c.goal-goal.ensures.kept ∙ before.3,
       omega (arith, long, short, before.4),
