@@ -13,8 +13,10 @@ use Rattle.script_text.specs.Text.{head_text, entry_text, roll_text}
 abbrev pub reply_line : Reply → List ℕ
 reply_line (replies.Total total) = codes "# total " ++ decimal total ++ codes "\n"
 reply_line replies.Taken = codes "# taken\n"
-reply_line (replies.CapSet cap ceiling) = codes "# cap " ++ decimal cap ++ codes " ceiling " ++ decimal ceiling ++ codes "\n"
-reply_line (replies.CapOut least most) = codes "# cap out " ++ decimal least ++ codes " " ++ decimal most ++ codes "\n"
+reply_line (replies.CapSet cap ceiling) =
+    codes "# cap " ++ decimal cap ++ codes " ceiling " ++ decimal ceiling ++ codes "\n"
+reply_line (replies.CapOut least most) =
+    codes "# cap out " ++ decimal least ++ codes " " ++ decimal most ++ codes "\n"
 reply_line _ = []
 
 -- the comment line of an inverter's goal

@@ -14,7 +14,8 @@ use Rattle.operator_console.specs.declared.session.ConsoleEnd.{ConsoleEnd}
 use Rattle.operator_console.specs.declared.session.ConsoleEnd.TheVariants as ends
 use Rattle.operator_console.specs.Orders.{EndsInReturn, IsOrder, call_of}
 use Rattle.operator_console.specs.Comments.{full_line, goal_line, reply_line, rolled_text}
-use Rattle.operator_console.specs.Deeds.{Deed, Told, Rolled, Tests, IsDeed, deed_entries, deed_fronts, deed_rolls, deed_text}
+use Rattle.operator_console.specs.Deeds.{Deed, Told, Rolled, Tests, IsDeed}
+use Rattle.operator_console.specs.Deeds.{deed_entries, deed_fronts, deed_rolls, deed_text}
 use Rattle.operator_console.specs.Transcript.{Done, AreDone, IsStop, NeverFall, bytes_of, text_of}
 
 -- the desk did the deed of a line

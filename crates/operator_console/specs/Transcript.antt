@@ -7,6 +7,7 @@ use Rattle.std.specs.Str.Iter.{LacksByte}
 use Rattle.plant_book.specs.declared.call.Call.TheVariants as calls
 use Rattle.plant_book.specs.declared.call.Reply.TheVariants as replies
 use Rattle.plant_book.specs.declared.book.Entry.{Entry}
+use Rattle.plant_book.specs.Part.{PartRecord}
 use Rattle.ledger_desk.specs.Desk.{DeskState, EntersNone, Enters}
 use Rattle.operator_console.specs.declared.order.Order.{Order}
 use Rattle.operator_console.specs.declared.session.ConsoleEnd.{ConsoleEnd}
@@ -124,7 +125,7 @@ EndsSo ends.BookFull inverters was_full read rest dones left old new =
 EndsSo ends.NoMemory inverters was_full read rest dones left old new =
     (¬ HasStop dones) × (Appends old new (text_of dones)
     ⊎ ((last : Done) × IsCutShort dones last old new
-    × (front : ℕ) × (book : _) × (last.deed ≡ Rolled front book)))
+    × (front : ℕ) × (book : PartRecord) × (last.deed ≡ Rolled front book)))
 
 -- At a fault and at want of memory a Stop was entered behind the lines, at a reading of the clock, or a book was
 -- full. At another end there is none.

@@ -1,5 +1,6 @@
 //! The lines of an input, as its bytes come.
-ghost use Rattle.std.specs.Prelude.{◌≡◌, ◌<◌, ◌≤◌, ◌+◌, ◌++◌, ◌∷◌, [], ◌^◌, ℕ, List, Option, IfErr, OnErr, OnOk, Ok, length};
+ghost use Rattle.std.specs.Prelude.{◌≡◌, ◌<◌, ◌≤◌, ◌+◌, ◌++◌, ◌∷◌, [], ◌^◌, ℕ, List, Option};
+ghost use Rattle.std.specs.Prelude.{IfErr, OnOk, Ok, length};
 ghost use Rattle.std.specs.Str.Iter.{LacksByte};
 ghost use Rattle.world_traits.specs.Causes.{HasCause};
 ghost use Rattle.ledger_desk.specs.Desk.{DeskState};
@@ -72,8 +73,8 @@ fn without_return(bytes: &[u8]) -> &[u8]
 }
 
 impl Lines {
-    /// Takes more bytes of the line that isn't whole yet. Its room grows from a piece by doubling, and so is never more
-    /// than the bytes that are read at most.
+    /// Takes more bytes of the line that isn't whole yet. Its room begins with that of a piece and doubles, and so is
+    /// never more than the bytes that are read at most.
     fn hold(&mut self, more: &[u8]) -> Result<(), ConsoleEnd>
         ensures held { OnOk result (self.new.held.items ≡ self.old.held.items ++ more.now) }
         ensures number { self.new.number ≡ self.old.number }

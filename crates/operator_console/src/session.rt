@@ -40,8 +40,8 @@ pub enum ConsoleEnd {
 }
 
 /// Follows the lines of an input as they come: does each at once, and reads no further while a whole one is left. It
-/// reads at most so many bytes, and then ends as at the end of the input. At a fault and at want of memory it enters a
-/// Stop, where the book has room. It may wait, as the desk, the source and the clock may.
+/// reads at most `CONSOLE_BYTES_MAX` bytes, and then ends as at the end of the input. At a fault and at want of memory
+/// it enters a Stop, where the book has room. It may wait, as the desk, the source and the clock may.
 pub fn console<D: Desk, C: Source, O: Sink, K: Clock>(
     alloc: Global,
     desk: &mut D,
@@ -57,8 +57,8 @@ pub fn console<D: Desk, C: Source, O: Sink, K: Clock>(
     ensures transcript { IsTranscript result (tests_of (K.may_give clock.now) (D.tests desk.new)) (D.tests desk.new).was_full (D.state desk.old) (D.state desk.new)
         (C.left input.old) (C.left input.new) (O.taken out.old) (O.taken out.new) }
 
-    // A failed read and a failed write are answered exactly where one failed. After a write that failed nothing more is
-    // written.
+    // A failed read and a failed write are answered exactly where one failed. After a write that failed nothing more
+    // is written.
     ensures input_faults { HasCause (C.faults input.old) (C.faults input.new) (at_input result) }
     ensures output_faults { HasCause (O.faults out.old) (O.faults out.new) (at_output result) }
     ensures stops { O.faults out.old ≡ 0 → O.late out.new ≡ O.late out.old }
