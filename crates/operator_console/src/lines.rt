@@ -46,7 +46,8 @@ pub(crate) fn follow_line<D: Desk, O: Sink, K: Clock>(
 ) -> Result<(), ConsoleEnd>
     requires few { inverters ≤ 64 }
     requires of_desk { inverters ≡ (D.state desk.old).inverters }
-    ensures handled { IsHandled result (tests_of (K.may_give clock.now) (D.tests desk.new)) (D.tests desk.new).was_full number line.now (D.state desk.old) (D.state desk.new)
+    ensures handled { IsHandled result (tests_of (K.may_give clock.now) (D.tests desk.new))
+        (D.tests desk.new).was_full number line.now (D.state desk.old) (D.state desk.new)
         (O.taken out.old) (O.taken out.new) }
     ensures last { TestsLast (D.tests desk.old) (D.tests desk.new) }
     ensures kept { D.kept desk.new ≡ D.kept desk.old }

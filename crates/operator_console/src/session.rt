@@ -54,7 +54,8 @@ pub fn console<D: Desk, C: Source, O: Sink, K: Clock>(
     requires of_desk { inverters ≡ (D.state desk.old).inverters }
 
     // What was done of the lines of the bytes read, what was written, and how it ended.
-    ensures transcript { IsTranscript result (tests_of (K.may_give clock.now) (D.tests desk.new)) (D.tests desk.new).was_full (D.state desk.old) (D.state desk.new)
+    ensures transcript { IsTranscript result (tests_of (K.may_give clock.now) (D.tests desk.new))
+        (D.tests desk.new).was_full (D.state desk.old) (D.state desk.new)
         (C.left input.old) (C.left input.new) (O.taken out.old) (O.taken out.new) }
 
     // A failed read and a failed write are answered exactly where one failed. After a write that failed nothing more
@@ -161,7 +162,8 @@ fn read_lines<D: Desk, C: Source, O: Sink, K: Clock>(
 
 /// Enters a Stop at a fault and at want of memory, where the book has room.
 fn close<D: Desk, K: Clock>(end: ConsoleEnd, desk: &mut D, clock: &K)
-    ensures closed { IsClosed end (K.may_give clock.now) (D.tests desk.new).was_full (D.state desk.old) (D.state desk.new) }
+    ensures closed { IsClosed end (K.may_give clock.now) (D.tests desk.new).was_full (D.state desk.old)
+        (D.state desk.new) }
     ensures last { TestsLast (D.tests desk.old) (D.tests desk.new) }
     ensures kept { D.kept desk.new ≡ D.kept desk.old }
 {
