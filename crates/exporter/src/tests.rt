@@ -8,7 +8,10 @@ mod runs;
 mod sites;
 mod waits;
 
+use exporter_commands::Ended;
 use std::alloc::{AllocError, Global};
+use std::process::Abort;
+use world_traits::BytesSink;
 
 /// The words of a command line.
 fn words(alloc: Global, line: &str) -> Result<Vec<String>, AllocError> {
@@ -27,4 +30,10 @@ fn first_lines(alloc: Global, text: &str, count: usize) -> Result<String, AllocE
         first.push_str("\n")?;
     }
     Ok(first)
+}
+
+/// That a command of this name ended like this, and wrote this.
+fn comes_to(rt: &impl Abort, name: &str, came: &(Ended, BytesSink), end: Ended, text: &str) {
+    assert_eq!(rt; came.0, end, "{name}");
+    assert_eq!(rt; came.1.taken(), text.as_bytes(), "{name}");
 }

@@ -26,7 +26,7 @@ fn a_source_gives_its_bytes_and_fails_where_it_is_told(rt: HostRuntime) -> Resul
         (Ok(0), [0, 0]),
     ];
     for row in rows {
-        assert_eq!(rt; read(&mut source), row);
+        assert!(rt; read(&mut source) == row);
     }
     Ok(())
 }
@@ -41,10 +41,10 @@ fn a_sink_keeps_its_bytes_and_fails_where_it_is_told(rt: HostRuntime) -> Result<
     sent(&sink);
     let rows = [([1, 2], Ok(2)), ([3, 3], Err(WriteFailed)), ([4, 5], Ok(2))];
     for (bytes, row) in rows {
-        assert_eq!(rt; write(&mut sink, &bytes), row);
+        assert!(rt; write(&mut sink, &bytes) == row);
     }
     assert_eq!(rt; sink.taken(), [1, 2, 4, 5].as_slice());
-    assert_eq!(rt; sink.starved(), 0);
+    assert!(rt; sink.starved() == 0);
     Ok(())
 }
 
@@ -73,11 +73,11 @@ enum Step {
 
 fn take<N: Dialer>(rt: &impl Abort, dialer: &mut N, step: Step) {
     match step {
-        Step::Dial(made) => assert_eq!(rt; dialer.dial("plant", 502, 1_000), made),
-        Step::Send(bytes, sent) => assert_eq!(rt; send_whole(dialer, &bytes), sent),
+        Step::Dial(made) => assert!(rt; dialer.dial("plant", 502, 1_000) == made),
+        Step::Send(bytes, sent) => assert!(rt; send_whole(dialer, &bytes) == sent),
         Step::Receive(got, bytes) => {
             let mut into = [0; 2];
-            assert_eq!(rt; (dialer.recv(&mut into), into), (got, bytes));
+            assert!(rt; dialer.recv(&mut into) == got && into == bytes);
         }
         Step::HangUp => dialer.hang_up(),
     }
@@ -108,12 +108,9 @@ fn a_dialer_plays_its_links_and_tells_their_record(rt: HostRuntime) -> Result<()
     for step in steps {
         take(&rt, &mut dialer, step);
     }
-    assert_eq!(rt; (dialer.starved(), dialer.log().count()), (0, 2));
+    assert!(rt; dialer.starved() == 0 && dialer.log().count() == 2);
     let first = dialer.log().link(0).ok_or("the first link")?;
-    assert_eq!(rt;
-        (first.host(), first.port(), first.answers()),
-        ("plant", 502, 5)
-    );
+    assert!(rt; first.host() == "plant" && first.port() == 502 && first.answers() == 5);
     assert_eq!(rt; first.sent(), [1, 2, 3].as_slice());
     Ok(())
 }
@@ -132,18 +129,14 @@ fn four_calls<N: Dialer>(dialer: &mut N) -> [bool; 4] {
 #[test]
 fn a_dialer_fails_where_it_is_told(rt: HostRuntime) -> Result<(), Fail> {
     let rows = [
-        [false, false, false, false],
-        [true, false, true, true],
-        [true, true, false, false],
-        [true, true, true, false],
+        (0, [false, false, false, false]),
+        (1, [true, false, true, true]),
+        (2, [true, true, false, false]),
+        (3, [true, true, true, false]),
     ];
-    for (number, row) in [0, 1, 2, 3].into_iter().zip(rows) {
+    for (number, row) in rows {
         let mut dialer = two_links(rt.alloc(), vec![in rt.alloc(); number]?)?;
-        assert_eq!(rt;
-            four_calls(&mut dialer),
-            row,
-            "where call {number} is to fail"
-        );
+        assert_eq!(rt; four_calls(&mut dialer), row);
     }
     Ok(())
 }
@@ -156,8 +149,8 @@ fn a_watch_keeps_what_it_read_of_a_clock_that_goes_on(rt: HostRuntime) {
     let first = watch.now();
     watch.rest(10);
     let second = watch.now();
-    assert_eq!(rt; (first, second, clock.now()), (1, 12, 13));
-    assert_eq!(rt; watch.readings(), [1, 12].as_slice());
+    assert!(rt; first == 1 && second == 12 && clock.now() == 13);
+    assert!(rt; watch.readings() == [1, 12].as_slice());
 
     let late = StepClock::new(999_999_999_999_998, 1);
     for reading in [
@@ -165,7 +158,7 @@ fn a_watch_keeps_what_it_read_of_a_clock_that_goes_on(rt: HostRuntime) {
         1_000_000_000_000_000,
         1_000_000_000_000_000,
     ] {
-        assert_eq!(rt; late.now(), reading);
+        assert!(rt; late.now() == reading);
         late.rest(1);
     }
 }

@@ -74,8 +74,8 @@ fn an_inverter_that_is_served_is_commissioned_and_kept_under_the_cap(
             Ok((commissioned, ran))
         },
     );
-    assert_eq!(rt; served?, Ended::Done);
+    assert!(rt; served? == Ended::Done);
     let kept: Result<(Ended, Ended), AllocError> = kept;
-    assert_eq!(rt; kept?, (Ended::Done, Ended::Done));
+    assert!(rt; kept? == (Ended::Done, Ended::Done));
     Ok(())
 }

@@ -1,7 +1,7 @@
 //! `live` over the links of one inverter, and of two of which one at most is reached.
-use super::first_lines;
 use super::links::{NONE, devices, players, run_over};
 use super::sites::{INVERTER, Inverter, PLANT, site_file};
+use super::{comes_to, first_lines};
 use exporter_commands::{Ended, LiveFault};
 use std::test::Fail;
 use world_traits::{Move, PlayLink, StepClock};
@@ -26,10 +26,9 @@ fn an_inverter_is_commissioned_and_a_file_or_an_output_fails(rt: HostRuntime) ->
     for (line, fails, end, lines) in rows {
         let clock = StepClock::new(0, 1);
         let mut dialers = devices(&rt, alloc, 6_000, &clock, false)?;
-        let (ended, out) = run_over(alloc, line, site.as_str(), fails, &mut dialers, &clock)?;
-        assert_eq!(rt; ended, end);
+        let came = run_over(alloc, line, site.as_str(), fails, &mut dialers, &clock)?;
         let text = first_lines(alloc, COMMISSIONED, lines)?;
-        assert_eq!(rt; out.taken(), text.as_bytes());
+        comes_to(&rt, line, &came, end, text.as_str());
     }
     Ok(())
 }
@@ -65,14 +64,12 @@ fn a_link_that_takes_half_a_request_and_one_that_is_served(rt: HostRuntime) -> R
         let mut dialers = players(alloc, links, Vec::new(alloc))?;
         let fails = (NONE, NONE);
         let clock = StepClock::new(0, 1);
-        let (ended, out) = run_over(alloc, line, site.as_str(), fails, &mut dialers, &clock)?;
-        assert_eq!(rt; ended, end);
-        assert!(rt; out.taken().is_empty());
+        let came = run_over(alloc, line, site.as_str(), fails, &mut dialers, &clock)?;
+        comes_to(&rt, line, &came, end, "");
         let log = dialers.first().ok_or("the first dialer")?.log();
         let link = log.link(0).ok_or("its link")?;
-        assert!(rt; link.host() == "plant" && link.port() == 5_020);
-        assert!(rt; log.count() == 1 && link.answers() == answers);
-        assert_eq!(rt; link.sent(), sent);
+        assert!(rt; log.count() == 1 && link.host() == "plant" && link.port() == 5_020);
+        assert!(rt; link.sent() == sent && link.answers() == answers);
     }
     Ok(())
 }
@@ -124,14 +121,13 @@ fn two_inverters_without_a_link_and_with_one_that_is_silent(rt: HostRuntime) -> 
         let mut dialers = players(alloc, links, Vec::new(alloc))?;
         let fails = (NONE, NONE);
         let clock = StepClock::new(0, 1);
-        let (ended, out) = run_over(alloc, "run 1", site.as_str(), fails, &mut dialers, &clock)?;
-        assert_eq!(rt; ended, Ended::Done);
+        let came = run_over(alloc, "run 1", site.as_str(), fails, &mut dialers, &clock)?;
         let text = format!(in alloc; "{PAIR_BEGUN}{calls}{PAIR_ENDS}")?;
-        assert_eq!(rt; out.taken(), text.as_bytes());
+        comes_to(&rt, calls, &came, Ended::Done, text.as_str());
         let log = dialers.first().ok_or("the first dialer")?.log();
-        assert_eq!(rt; log.count(), count);
+        assert!(rt; log.count() == count);
         if let Some(link) = log.link(0) {
-            assert_eq!(rt; link.sent(), LIMIT_READ.as_slice());
+            assert!(rt; link.sent() == LIMIT_READ.as_slice());
         }
     }
     Ok(())

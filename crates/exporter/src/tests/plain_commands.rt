@@ -1,5 +1,5 @@
 //! `plain` over an input and an output in memory.
-use super::words;
+use super::{comes_to, words};
 use exporter_commands::{Ended, plain};
 use std::alloc::{AllocError, Global};
 use std::test::Fail;
@@ -71,9 +71,8 @@ fn each_command_writes_its_text_and_fails_midway(rt: HostRuntime) -> Result<(), 
         ("replay", SCRIPT, 9, 0, Ended::WriteFault, ""),
     ];
     for (line, input, read, write, end, text) in rows {
-        let (ended, output) = run(alloc, line, input.as_bytes(), read, write)?;
-        assert_eq!(rt; ended, end);
-        assert_eq!(rt; output.taken(), text.as_bytes());
+        let came = run(alloc, line, input.as_bytes(), read, write)?;
+        comes_to(&rt, line, &came, end, text);
     }
     Ok(())
 }

@@ -1,7 +1,7 @@
 //! `run` with one inverter over links in memory.
-use super::first_lines;
 use super::links::{NONE, players, run_over};
 use super::sites::{INVERTER, PLANT, Plant, site_file};
+use super::{comes_to, first_lines};
 use exporter_commands::Ended;
 use std::alloc::{AllocError, Global};
 use std::process::Abort;
@@ -216,17 +216,10 @@ fn check(rt: &impl Abort, alloc: Global, case: Case) -> Result<(), Fail> {
     let site = site_file(alloc, SLOW, &[INVERTER])?;
     let fails = (NONE, NONE);
     let clock = StepClock::new(0, 1);
-    let (ended, out) = run_over(alloc, "run 2", site.as_str(), fails, &mut dialers, &clock)?;
+    let came = run_over(alloc, "run 2", site.as_str(), fails, &mut dialers, &clock)?;
     let mut text = first_lines(alloc, case.book, case.lines)?;
     text.push_str(case.behind)?;
-    assert_eq!(rt; ended, Ended::Done, "{} {}", case.name, case.fails);
-    assert_eq!(rt;
-        out.taken(),
-        text.as_bytes(),
-        "{} {}",
-        case.name,
-        case.fails
-    );
+    comes_to(rt, case.name, &came, Ended::Done, text.as_str());
     Ok(())
 }
 

@@ -66,9 +66,8 @@ fn each_dial_waits_and_each_turn_rests_as_the_site_file_says(rt: HostRuntime) ->
         let mut dialers = vec![in alloc; nobody; 64]?;
         let fails = (NONE, NONE);
         let (ended, _) = run_over(alloc, line, site.as_str(), fails, &mut dialers, &clock)?;
-        assert_eq!(rt; ended, end);
         let first = dialers.first().ok_or("a dialer")?;
-        assert_eq!(rt; (first.faults, first.waited), (dials, dials * 2_345));
+        assert!(rt; ended == end && first.faults == dials && first.waited == dials * 2_345);
         assert!(rt; rest.contains(&clock.now()));
     }
     Ok(())
