@@ -5,3 +5,5 @@ pub mod Rounds
 pub mod Acts
 pub mod Requests
 pub mod Agreement
+pub mod Operator
+pub mod Forked
