@@ -18,3 +18,5 @@ pub mod Receiving
 pub mod Requesting
 pub mod Numbered
 pub mod Agreeing
+pub mod Few
+pub mod Passing
