@@ -18,5 +18,6 @@ pub mod Receiving
 pub mod Requesting
 pub mod Numbered
 pub mod Agreeing
+pub mod Halves
 pub mod Few
 pub mod Passing

@@ -6,10 +6,13 @@
 //! stands in `specs/Agreement.antt`.
 #![tactic(auto)]
 
+mod crew;
+mod forked;
 mod laws;
 mod plain;
 mod turns;
 
+pub use forked::{RunEnd, run_forked};
 pub use laws::{links_agree, runs_agree};
 pub use plain::run_plain;
 pub use turns::run_out;
