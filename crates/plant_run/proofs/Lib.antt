@@ -18,3 +18,6 @@ pub mod Receiving
 pub mod Requesting
 pub mod Numbered
 pub mod Agreeing
+pub mod Transcripts
+pub mod Rollers
+pub mod Console
