@@ -46,7 +46,7 @@ of_others one other passes there apart = ⊎_elim
     (λ (rest : Contains passes other). rest)
     (Contains-append_cases (one ∷ []) passes other there)
 
--- the entries of the operator's pass are those of its console
+-- each entry of the operator's pass is one that an operator makes
 pub operators_made : (may_give : ℕ → Bool) (desk : DeskRecord) (operator : PassRecord) (number : ℕ)
     (ended : ConsoleEnd) (left left_now taken taken_now : Option (List ℕ))
     → IsTranscript ended (console.tests_of may_give (tests_of operator)) (tests_of operator).was_full
@@ -69,7 +69,7 @@ module _ (desk : DeskRecord) (operator : PassRecord) (passes : List PassRecord) 
   abbrev first : ℕ
   first = first_place desk
 
-  -- what is so of each pass is so of the operator's
+  -- the operator's is one of the passes
   there : Contains all operator
   there = (0, omega arith, refl)
 
