@@ -24,3 +24,4 @@ pub mod Passing
 pub mod Transcripts
 pub mod Rollers
 pub mod Console
+pub mod Together

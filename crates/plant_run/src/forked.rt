@@ -37,7 +37,7 @@ struct Seats<'a, R: Wait> {
     workers: Vec<DeskOf<'a, R>>,
     operator: DeskOf<'a, R>,
     /// Room for all passes.
-    passes: Vec<Pass>,
+    room: Vec<Pass>,
 }
 
 /// Works a plant by threads: one for each worker, which makes its turns to its end, and one for the console of an
@@ -85,15 +85,28 @@ pub fn run_forked<
     ensures untouched { OnErr result ((workers.new.items ≡ workers.old.items) × (dialers.new.items ≡ dialers.old.items)
         × (input.new ≡ input.old) × (out.new ≡ out.old)) }
 {
-    let count = workers.len() as u32;
     let inverters = plant.site().units.len() as u32;
+    let count = workers.len() as u32;
     let (desk, passes) = PlantDesk::new(alloc, plant, count + 1)?;
-    let mut seats = take_seats(rt, alloc, &desk, passes)?;
+    let Seats {
+        workers: mut desks,
+        mut operator,
+        room,
+    } = take_seats(rt, alloc, &desk, passes)?;
     let (dialers, _) = dialers.split_at_mut(workers.len());
     let console = work_and_listen(
-        rt, alloc, inverters, &mut seats, workers, dialers, clock, input, out,
+        rt,
+        alloc,
+        inverters,
+        &mut desks,
+        &mut operator,
+        workers,
+        dialers,
+        clock,
+        input,
+        out,
     );
-    let passes = hand_in(seats);
+    let passes = hand_in(desks, operator, room);
     let plant = close(desk, passes);
     Ok(RunEnd { plant, console })
 }
@@ -108,27 +121,40 @@ fn take_seats<'a, R: Wait>(
     requires some { 1 ≤ vec_len passes }
     requires of_desk { All (λ pass. pass.desk ≡ desk.now) passes.items }
     ensures seated { IfOk result (λ seats. seats.workers.items ++ seats.operator ∷ [] ≡ passes.items) }
-    ensures empty { IfOk result (λ seats. seats.passes.items ≡ []) }
-    ensures room { IfOk result (λ seats. vec_len passes ≤ vec_capacity seats.passes) }
+    ensures empty { IfOk result (λ seats. seats.room.items ≡ []) }
+    ensures room { IfOk result (λ seats. vec_len passes ≤ vec_capacity seats.room) }
 {
+    let Ok(room) = Vec::with_capacity(alloc, passes.len()) else {
+        return Err(NoMemory);
+    };
     let Some(last) = passes.pop() else {
         unreachable!();
     };
-    let count = passes.len();
-    let Ok(mut workers) = Vec::with_capacity(alloc, count) else {
-        return Err(NoMemory);
-    };
-    let Ok(room) = Vec::with_capacity(alloc, count + 1) else {
-        return Err(NoMemory);
-    };
-    for pass in passes {
-        workers.push_reserved(DeskOf::new(rt, desk, pass));
-    }
+    let workers = desks_of(rt, alloc, desk, passes)?;
     Ok(Seats {
         workers,
         operator: DeskOf::new(rt, desk, last),
-        passes: room,
+        room,
     })
+}
+
+/// A desk for each pass, in their order.
+fn desks_of<'a, R: Wait>(
+    rt: &'a R,
+    alloc: Global,
+    desk: &'a PlantDesk,
+    passes: Vec<Pass>,
+) -> Result<Vec<DeskOf<'a, R>>, NoMemory>
+    requires of_desk { All (λ pass. pass.desk ≡ desk.now) passes.items }
+    ensures { IfOk result (λ desks. desks.items ≡ passes.items) }
+{
+    let Ok(mut desks) = Vec::with_capacity(alloc, passes.len()) else {
+        return Err(NoMemory);
+    };
+    for pass in passes {
+        desks.push_reserved(DeskOf::new(rt, desk, pass));
+    }
+    Ok(desks)
 }
 
 /// Gives the workers their turns and the console its lines, all at once. It ends when all are over.
@@ -143,7 +169,8 @@ fn work_and_listen<
     rt: &R,
     alloc: Global,
     inverters: u32,
-    seats: &mut Seats<'a, R>,
+    desks: &mut [DeskOf<'a, R>],
+    operator: &mut DeskOf<'a, R>,
     workers: &mut [Worker],
     dialers: &mut [N],
     clock: &K,
@@ -151,32 +178,26 @@ fn work_and_listen<
     out: &mut O,
 ) -> ConsoleEnd
     requires few { inverters ≤ 64 }
-    requires of_desk { inverters ≡ (state_of seats.old.operator).inverters }
-    requires desks { vec_len seats.old.workers ≡ length workers.old }
+    requires of_desk { inverters ≡ (state_of operator.old).inverters }
+    requires desks { length desks.old ≡ length workers.old }
     requires dialers { length dialers.old ≡ length workers.old }
-    requires ready { EachReady state_of workers.old seats.old.workers.items }
+    requires ready { EachReady state_of workers.old desks.old }
     ensures workers { AllRunOut state_of tests_of identity N.links N.faults (K.may_give clock.now) workers.old workers.new
-        seats.old.workers.items seats.new.workers.items dialers.old dialers.new }
-    ensures console { IsTranscript result (console_tests (K.may_give clock.now) (tests_of seats.new.operator))
-        (tests_of seats.new.operator).was_full (state_of seats.old.operator) (state_of seats.new.operator)
+        desks.old desks.new dialers.old dialers.new }
+    ensures console { IsTranscript result (console_tests (K.may_give clock.now) (tests_of operator.new))
+        (tests_of operator.new).was_full (state_of operator.old) (state_of operator.new)
         (C.left input.old) (C.left input.new) (O.taken out.old) (O.taken out.new) }
-    ensures kept { identity seats.new.operator ≡ identity seats.old.operator }
+    ensures kept { identity operator.new ≡ identity operator.old }
     ensures input_faults { HasCause (C.faults input.old) (C.faults input.new) (at_input result) }
     ensures output_faults { HasCause (O.faults out.old) (O.faults out.new) (at_output result) }
     ensures stops { O.faults out.old ≡ 0 → O.late out.new ≡ O.late out.old }
-    ensures passes { seats.new.passes ≡ seats.old.passes }
 {
-    let Seats {
-        workers: desks,
-        operator,
-        ..
-    } = seats;
     let mut crew = ||
         requires { IsSync R.row × IsSync K.row × IsSend N.row
-            × (vec_len desks.now ≡ length workers.now) × (length dialers.now ≡ length workers.now)
-            × EachReady state_of workers.now desks.now.items }
+            × (length desks.now ≡ length workers.now) × (length dialers.now ≡ length workers.now)
+            × EachReady state_of workers.now desks.now }
         ensures { AllRunOut state_of tests_of identity N.links N.faults (K.may_give clock.entry.now) workers.entry.now
-            workers.exit.now desks.entry.now.items desks.exit.now.items dialers.entry.now dialers.exit.now }
+            workers.exit.now desks.entry.now desks.exit.now dialers.entry.now dialers.exit.now }
     { work_apart(rt, clock, workers, desks, dialers) };
     let mut listen = || -> ConsoleEnd
         requires { (inverters ≤ 64) × (inverters ≡ (state_of operator.now).inverters) }
@@ -193,16 +214,15 @@ fn work_and_listen<
 }
 
 /// The passes of all desks: first the console's, then the workers'.
-fn hand_in<R: Wait>(seats: Seats<'_, R>) -> Vec<Pass>
-    requires empty { seats.passes.items ≡ [] }
-    requires room { vec_len seats.workers + 1 ≤ vec_capacity seats.passes }
-    ensures { result.items ≡ seats.operator ∷ seats.workers.items }
+fn hand_in<R: Wait>(
+    workers: Vec<DeskOf<'_, R>>,
+    operator: DeskOf<'_, R>,
+    mut passes: Vec<Pass>,
+) -> Vec<Pass>
+    requires empty { passes.items ≡ [] }
+    requires room { vec_len workers + 1 ≤ vec_capacity passes }
+    ensures { result.items ≡ operator.entry ∷ workers.entry.items }
 {
-    let Seats {
-        workers,
-        operator,
-        mut passes,
-    } = seats;
     passes.push_reserved(operator.into_pass());
     for desk in workers {
         passes.push_reserved(desk.into_pass());
