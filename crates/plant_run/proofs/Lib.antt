@@ -21,3 +21,6 @@ pub mod Agreeing
 pub mod Halves
 pub mod Few
 pub mod Passing
+pub mod Transcripts
+pub mod Rollers
+pub mod Console
