@@ -1,6 +1,7 @@
 -- One worker alone, and two halves of workers together.
 use Rattle.std.proofs.Common.{◌≡◌, ℕ, zero, suc, ◌<◌, ◌+◌, ◌-◌, ◌≤◌, Bool, true, false, List, [], ◌∷◌, ◌++◌, length, Option, Some, refl, sym, ap, subst, ◌∙◌, arith, get_or, ◌⊎◌, inl, inr, length-append}
 use Rattle.std.specs.Prelude.{slice_get, set, ◌==◌}
+use Rattle.std.proofs.lemmas.Bool.{eqb-true}
 use Rattle.std.proofs.lemmas.Option.{slice_get_within, slice_get-get_or}
 use Rattle.world_traits.specs.Links.{Links}
 use Rattle.ledger_desk.specs.Desk.{DeskState, DeskTests}
@@ -14,14 +15,7 @@ is_some zero none = absurd cc
 is_some (suc n) some = omega arith
 
 pub is_none : (n : ℕ) → (n == 0) ≡ true → n ≡ 0
-is_none zero none = refl
-is_none (suc n) none = absurd cc
-
--- a list with another element is as long
-pub length_set : {X : Type 0} (xs : List X) (i : ℕ) (x : X) → length (set xs i x) ≡ length xs
-length_set [] i x = refl
-length_set (y ∷ xs) zero x = refl
-length_set (y ∷ xs) (suc i) x = ap suc (length_set xs i x)
+is_none n none = eqb-true n 0 none
 
 -- a place less the first ones
 less_none : (i : ℕ) → i ≡ i - 0

@@ -1,6 +1,7 @@
 use Rattle.std.proofs.Common.{◌≡◌, ◌<◌, length, ℕ, arith, get_or, sym, ◌∙◌}
 use Rattle.std.proofs.lemmas.Option.{slice_get-get_or}
-use Rattle.plant_run.proofs.Halves.{alone, nobody, is_some, is_none, length_set}
+use Rattle.std.proofs.lemmas.List.{length-set}
+use Rattle.plant_run.proofs.Halves.{alone, nobody, is_some, is_none}
 use Rattle.plant_run.proofs.crew.work_alone.Goals as goal
 
 pub run_out-requires-clause-rests : goal.run_out-requires-clause-rests
@@ -22,7 +23,8 @@ returns-then-not-is_empty g c =
       stays = c.run_out.ensures.stays;
       last = c.run_out.ensures.last;
       kept = c.run_out.ensures.kept;
-    }) (length_set _ _ _) (length_set _ _ _) (length_set _ _ _)
+    }) (length-set c.args.workers.now 0 c.run_out.new.worker) (length-set c.args.desks.now 0 c.run_out.new.desk)
+    (length-set c.args.dialers.now 0 c.run_out.new.dialer)
 
 pub returns-else-not-is_empty : goal.returns-else-not-is_empty
 returns-else-not-is_empty g c =
