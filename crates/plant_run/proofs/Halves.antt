@@ -126,11 +126,11 @@ module _ {D N Kept : Type 0} (state : D → DeskState) (tests : D → DeskTests)
       (low_dialers ++ high_dialers) (low_dialers_now ++ high_dialers_now)
   together low high low_now high_now low_desks high_desks low_desks_now high_desks_now low_dialers high_dialers low_dialers_now high_dialers_now
       as_desks as_dialers first second = record {
-    each = each;
-    workers_stay = both_stay low high low_now high_now first.workers_stay second.workers_stay;
-    desks_stay = both_stay low_desks high_desks low_desks_now high_desks_now first.desks_stay second.desks_stay;
-    dialers_stay = both_stay low_dialers high_dialers low_dialers_now high_dialers_now first.dialers_stay second.dialers_stay;
-  }
+        each = each;
+        workers_stay = both_stay low high low_now high_now first.workers_stay second.workers_stay;
+        desks_stay = both_stay low_desks high_desks low_desks_now high_desks_now first.desks_stay second.desks_stay;
+        dialers_stay = both_stay low_dialers high_dialers low_dialers_now high_dialers_now first.dialers_stay second.dialers_stay;
+      }
     where
       both_stay : {X : Type 0} (xs ys zs ws : List X) → length zs ≡ length xs → length ws ≡ length ys → length (zs ++ ws) ≡ length (xs ++ ys)
       both_stay xs ys zs ws one other = omega (arith, length-append zs ws, length-append xs ys, one, other)
