@@ -1,6 +1,7 @@
 -- One worker alone, and two halves of workers together.
-use Rattle.std.proofs.Common.{◌≡◌, ℕ, zero, suc, ◌<◌, ◌+◌, ◌-◌, ◌≤◌, Bool, List, [], ◌∷◌, ◌++◌, length, Option, Some, refl, sym, ap, subst, ◌∙◌, arith, get_or, ◌⊎◌, inl, inr, length-append}
-use Rattle.std.specs.Prelude.{slice_get, set}
+use Rattle.std.proofs.Common.{◌≡◌, ℕ, zero, suc, ◌<◌, ◌+◌, ◌-◌, ◌≤◌, Bool, true, false, List, [], ◌∷◌, ◌++◌, length, Option, Some, refl, sym, ap, subst, ◌∙◌, arith, get_or, ◌⊎◌, inl, inr, length-append}
+use Rattle.std.specs.Prelude.{slice_get, set, ◌==◌}
+use Rattle.std.proofs.lemmas.Bool.{eqb-true}
 use Rattle.std.proofs.lemmas.Option.{slice_get_within, slice_get-get_or}
 use Rattle.world_traits.specs.Links.{Links}
 use Rattle.ledger_desk.specs.Desk.{DeskState, DeskTests}
@@ -8,14 +9,29 @@ use Rattle.worker_turn.specs.Worker.{WorkerRecord}
 use Rattle.plant_run.specs.Forked.{RunsOut, AllRunOut, EachReady}
 use Rattle.plant_run.proofs.Seats.{get_same, some_same}
 
+-- a count that isn't 0
+pub is_some : (n : ℕ) → (n == 0) ≡ false → 0 < n
+is_some zero none = absurd cc
+is_some (suc n) some = omega arith
+
+pub is_none : (n : ℕ) → (n == 0) ≡ true → n ≡ 0
+is_none n none = eqb-true n 0 none
+
+-- a place less the first ones
+less_none : (i : ℕ) → i ≡ i - 0
+less_none i = omega arith
+
+less_both : (i n : ℕ) → i - n ≡ suc i - suc n
+less_both i n = omega arith
+
 -- an element of two lists together is one of the first, or one of the second behind it
 pub get_either : {X : Type 0} (xs ys : List X) (i : ℕ) (x : X) → slice_get (xs ++ ys) i ≡ Some x
     → ((i < length xs) × (slice_get xs i ≡ Some x)) ⊎ ((length xs ≤ i) × (slice_get ys (i - length xs) ≡ Some x))
-get_either [] ys i x is = inr (omega arith, is)
+get_either [] ys i x is = inr (omega arith, subst (λ (m : ℕ). slice_get ys m ≡ Some x) (less_none i) is)
 get_either (y ∷ xs) ys zero x is = inl (omega arith, is)
 get_either (y ∷ xs) ys (suc i) x is = elim (get_either xs ys i x is) [
   | inl here ↦ inl (omega (arith, here.0), here.1)
-  | inr there ↦ inr (omega (arith, there.0), there.1)
+  | inr there ↦ inr (omega (arith, there.0), subst (λ (m : ℕ). slice_get ys m ≡ Some x) (less_both i (length xs)) there.1)
 ]
 
 -- one of the first is below their count, and one behind is not
@@ -89,6 +105,17 @@ module _ {D N Kept : Type 0} (state : D → DeskState) (tests : D → DeskTests)
       each (suc place) w v d e n m is now desk_is desk_after dialer_is dialer_after =
           absurd (omega (arith, few, slice_get_within workers (suc place) w is))
 
+  -- the same of lists that are these
+  pub all_as : (workers workers_as workers_now : List WorkerRecord) (desks desks_as desks_now : List D) (dialers dialers_as dialers_now : List N)
+      → workers ≡ workers_as → desks ≡ desks_as → dialers ≡ dialers_as
+      → AllRunOut state tests kept_of links faults may_give workers_as workers_now desks_as desks_now dialers_as dialers_now
+      → AllRunOut state tests kept_of links faults may_give workers workers_now desks desks_now dialers dialers_now
+  all_as workers workers_as workers_now desks desks_as desks_now dialers dialers_as dialers_now same_workers same_desks same_dialers all =
+      let P : List WorkerRecord → Type 0 = λ ws. AllRunOut state tests kept_of links faults may_give ws workers_now desks_as desks_now dialers_as dialers_now in
+      let Q : List D → Type 0 = λ ds. AllRunOut state tests kept_of links faults may_give workers workers_now ds desks_now dialers_as dialers_now in
+      let R : List N → Type 0 = λ ns. AllRunOut state tests kept_of links faults may_give workers workers_now desks desks_now ns dialers_now in
+      subst R (sym same_dialers) (subst Q (sym same_desks) (subst P (sym same_workers) all))
+
   -- two halves
   pub together : (low high low_now high_now : List WorkerRecord) (low_desks high_desks low_desks_now high_desks_now : List D)
       (low_dialers high_dialers low_dialers_now high_dialers_now : List N)
@@ -99,11 +126,11 @@ module _ {D N Kept : Type 0} (state : D → DeskState) (tests : D → DeskTests)
       (low_dialers ++ high_dialers) (low_dialers_now ++ high_dialers_now)
   together low high low_now high_now low_desks high_desks low_desks_now high_desks_now low_dialers high_dialers low_dialers_now high_dialers_now
       as_desks as_dialers first second = record {
-    each = each;
-    workers_stay = both_stay low high low_now high_now first.workers_stay second.workers_stay;
-    desks_stay = both_stay low_desks high_desks low_desks_now high_desks_now first.desks_stay second.desks_stay;
-    dialers_stay = both_stay low_dialers high_dialers low_dialers_now high_dialers_now first.dialers_stay second.dialers_stay;
-  }
+        each = each;
+        workers_stay = both_stay low high low_now high_now first.workers_stay second.workers_stay;
+        desks_stay = both_stay low_desks high_desks low_desks_now high_desks_now first.desks_stay second.desks_stay;
+        dialers_stay = both_stay low_dialers high_dialers low_dialers_now high_dialers_now first.dialers_stay second.dialers_stay;
+      }
     where
       both_stay : {X : Type 0} (xs ys zs ws : List X) → length zs ≡ length xs → length ws ≡ length ys → length (zs ++ ws) ≡ length (xs ++ ys)
       both_stay xs ys zs ws one other = omega (arith, length-append zs ws, length-append xs ys, one, other)
@@ -136,9 +163,21 @@ module _ {D : Type 0} (state : D → DeskState) where
   get_first (y ∷ xs) ys (suc i) x is = get_first xs ys i x is
 
   get_behind : {X : Type 0} (xs ys : List X) (n i : ℕ) → n ≡ length xs → slice_get (xs ++ ys) (n + i) ≡ slice_get ys i
-  get_behind [] ys n i is = ap (λ (m : ℕ). slice_get ys m) (omega (arith, is))
+  get_behind [] ys n i is =
+      let none : n + i ≡ i = omega (arith, is) in
+      ap (λ (m : ℕ). slice_get ys m) none
   get_behind (y ∷ xs) ys zero i is = absurd (omega (arith, is))
-  get_behind (y ∷ xs) ys (suc n) i is = ap (λ (m : ℕ). slice_get (y ∷ xs ++ ys) m) (omega arith) ∙ get_behind xs ys n i (omega (arith, is))
+  get_behind (y ∷ xs) ys (suc n) i is =
+      let next : suc n + i ≡ suc (n + i) = omega arith in
+      ap (λ (m : ℕ). slice_get (y ∷ xs ++ ys) m) next ∙ get_behind xs ys n i (omega (arith, is))
+
+  -- the same of lists that are these
+  pub ready_as : (workers workers_as : List WorkerRecord) (desks desks_as : List D) → workers ≡ workers_as → desks ≡ desks_as
+      → EachReady state workers desks → EachReady state workers_as desks_as
+  ready_as workers workers_as desks desks_as same_workers same_desks ready =
+      let P : List WorkerRecord → Type 0 = λ ws. EachReady state ws desks in
+      let Q : List D → Type 0 = λ ds. EachReady state workers_as ds in
+      subst Q same_desks (subst P same_workers ready)
 
   pub first_ready : (low high : List WorkerRecord) (low_desks high_desks : List D) → EachReady state (low ++ high) (low_desks ++ high_desks)
       → EachReady state low low_desks

@@ -108,7 +108,7 @@ module _ {N : Type 0} (links : N → Option Links) (faults : N → ℕ) (may_giv
     (workers workers_now : List WorkerRecord) (dialers dialers_now : List N) (same : length workers_now ≡ length workers)
     (paired : length passes ≡ length workers) (enough : length workers ≤ length dialers) (stay : length dialers_now ≡ length dialers)
     (ran : EachRunsOut state_of tests_of identity links faults may_give workers workers_now (map (new_pass desk) (range_with_len 1 (length workers)))
-        passes dialers dialers_now) where
+    passes dialers dialers_now) where
   -- the passes began with the numbers from 1 on
   begun : (place : ℕ) → place < length workers
       → slice_get (map (new_pass desk) (range_with_len 1 (length workers))) place ≡ Some (new_pass desk (place + 1))

@@ -62,8 +62,12 @@ ends_more before (one ∷ parts) part =
     let here = before + length one.entries in
     let behind = entries_of parts ++ part.entries in
     let sum : here + length behind ≡ before + length ((one.entries ++ entries_of parts) ++ part.entries) =
-    omega (arith, length-append (one.entries ++ entries_of parts) part.entries, length-append one.entries (entries_of parts),
-    length-append (entries_of parts) part.entries) in
+    omega (
+      arith,
+      length-append (one.entries ++ entries_of parts) part.entries,
+      length-append one.entries (entries_of parts),
+      length-append (entries_of parts) part.entries,
+    ) in
     ap (λ (l : List ℕ). here ∷ l) (ends_more here parts part) ∙ ap (λ (n : ℕ). here ∷ (ends_behind here parts ++ n ∷ [])) sum
 
 -- the ends of the books of a life are the places of that pass's rolls
@@ -72,8 +76,12 @@ pub ends_after : (number : ℕ) (life : Life) (deeds : List Deed) → RollsAre n
 ends_after number life [] are = sym (append-nil (ends_behind 0 life.ended))
 ends_after number life (Entered by entry ∷ deeds) are =
     let more : length (entries_of life.ended ++ (life.last.entries ++ entry ∷ [])) ≡ length (entries_of life.ended ++ life.last.entries) + 1 =
-    omega (arith, length-append (entries_of life.ended) (life.last.entries ++ entry ∷ []), length_push life.last.entries entry,
-    length-append (entries_of life.ended) life.last.entries) in
+    omega (
+      arith,
+      length-append (entries_of life.ended) (life.last.entries ++ entry ∷ []),
+      length_push life.last.entries entry,
+      length-append (entries_of life.ended) life.last.entries,
+    ) in
     ends_after number (after life (Entered by entry)) deeds are
     ∙ ap (λ (n : ℕ). ends_behind 0 life.ended ++ rolls_by number n deeds) more
 ends_after number life (Rolled by ∷ deeds) are =
@@ -95,8 +103,12 @@ ended_count number place life [] are = omega arith
 ended_count number place life (Entered by entry ∷ deeds) are = ended_count number (place + 1) (after life (Entered by entry)) deeds are
 ended_count number place life (Rolled by ∷ deeds) are =
     let rest = rolls_by number place deeds in
-    omega (arith, ended_count number place (after life (Rolled by)) deeds are.1, length_push life.ended life.last,
-    ap (λ (b : Bool). length (cond b (place ∷ rest) rest)) (eq-eqb by number are.0))
+    omega (
+      arith,
+      ended_count number place (after life (Rolled by)) deeds are.1,
+      length_push life.ended life.last,
+      ap (λ (b : Bool). length (cond b (place ∷ rest) rest)) (eq-eqb by number are.0),
+    )
 
 -- a book that ended stays where it is
 place_stays : (life : Life) (deeds : List Deed) (k : ℕ) (part : PartRecord) → slice_get life.ended k ≡ Some part

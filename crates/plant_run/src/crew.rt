@@ -56,6 +56,7 @@ fn work_in_halves<R: Threads + Sync, D: Desk + Send, N: Dialer + Send, K: Clock 
     high_desks: &mut [D],
     high_dialers: &mut [N],
 )
+    requires some { (0 < length low.old) × (0 < length high.old) }
     requires low_desks { length low_desks.old ≡ length low.old }
     requires low_dialers { length low_dialers.old ≡ length low.old }
     requires low_ready { EachReady D.state low.old low_desks.old }

@@ -1,4 +1,5 @@
 pub mod Refused
 pub mod Plays
 pub mod Once
-pub mod Books
+pub mod Mixed
+pub mod Lives

@@ -1,13 +1,9 @@
 -- A script has one replay, and its text is replayed as itself.
-use Rattle.std.proofs.Common.{◌≡◌, ℕ, ◌⊎◌, inl, inr, false, eqb, ltb, List, [], ◌∷◌, ◌++◌, map, Option, Some, None, refl, sym, ap, subst, ◌∙◌, arith, append_assoc}
-use Rattle.std.proofs.lemmas.Bool.{ne_eqb, le-ltb}
+use Rattle.std.proofs.Common.{◌≡◌, ℕ, List, [], ◌∷◌, ◌++◌, map, Option, Some, None, refl, sym, ap, subst, ◌∙◌, arith, append_assoc}
 use Rattle.std.proofs.lemmas.List.{append-nil, map-append}
 use Rattle.plant_book.specs.declared.call.Call.{Call}
-use Rattle.plant_book.specs.Site.{SiteRecord, inverters, floors}
+use Rattle.plant_book.specs.Site.{SiteRecord}
 use Rattle.plant_book.specs.Answer.{reply_to}
-use Rattle.plant_book.specs.Answered.{IsOpenable}
-use Rattle.plant_ledger.specs.declared.opening.OpenFault.{OpenFault}
-use Rattle.plant_ledger.specs.Opening.{open_fault}
 use Rattle.script_text.specs.declared.line.Line.{Line}
 use Rattle.script_text.specs.declared.line.Line.TheVariants as lines
 use Rattle.script_text.specs.Grammar.{Statement, Says}

@@ -1,5 +1,5 @@
 -- Deeds one behind the other, and what a line of a script may rely on.
-use Rattle.std.proofs.Common.{◌≡◌, ℕ, suc, true, false, ◌+◌, ◌<◌, ◌≤◌, max, List, [], ◌∷◌, ◌++◌, length, map, take, drop, get_or, Option, Some, None, Result, Ok, Err, refl, sym, ap, subst, ◌∙◌, arith, append_assoc, length-append, drop-cons}
+use Rattle.std.proofs.Common.{◌≡◌, ℕ, suc, ◌+◌, ◌<◌, ◌≤◌, max, List, [], ◌∷◌, ◌++◌, length, map, take, drop, get_or, Option, Some, None, Result, Ok, Err, refl, sym, ap, subst, ◌∙◌, arith, append_assoc, length-append, drop-cons}
 use Rattle.std.specs.Prelude.{IfSome, MatchOption, OnOk}
 use Rattle.std.specs.List.{flat_map, AllByRecursion}
 use Rattle.std.proofs.lemmas.List.{append-nil, map_push, map-append, take_more, take-append-drop, take-append-le, flat_map_more, length-map, length-take, take_all}
@@ -35,7 +35,6 @@ use Rattle.script_text.specs.Progress as reading
 use Rattle.script_text.specs.Reader.{AreLast, HasRead, LineRead, with_lines}
 use Rattle.script_text.proofs.Count.{read_within}
 use Rattle.std.proofs.Math.Seq.{get_or-append_seam, take-append_seam}
-use Rattle.script_text.proofs.Once.{not_both}
 use Rattle.script_text.proofs.Steps.{begun_on}
 use Rattle.script_text.proofs.Taken.{head_begun}
 use Rattle.script_replay.specs.Chain.{Chain, empty_life, first_chain, chain_after, chain_behind, IsDone, AreDone, history_of, IsSafeChain}

@@ -1,5 +1,5 @@
 -- Sites of scripts that are refused, and those that are not.
-use Rattle.std.proofs.Common.{◌≡◌, ℕ, ◌^◌, ◌<◌, ◌≤◌, Bool, false, true, eqb, ltb, List, Option, Some, None, Result, Ok, Err, refl, sym, ap, ◌∙◌, arith, inl, inr}
+use Rattle.std.proofs.Common.{◌≡◌, ℕ, false, eqb, ltb, List, Some, None, refl, sym, ap, ◌∙◌, arith}
 use Rattle.std.proofs.lemmas.Bool.{ne_eqb, le-ltb}
 use Rattle.std.proofs.lemmas.Option.{none-some}
 use Rattle.plant_book.specs.Site.{SiteRecord, inverters, floors}
@@ -10,7 +10,6 @@ use Rattle.script_text.specs.Script.{ScriptRecord, IsScript}
 use Rattle.script_text.specs.Size.{HasSize}
 use Rattle.script_text.specs.declared.size.SiteSize as sizes
 use Rattle.script_text.proofs.Once.{one_script, not_both}
-use Rattle.script_replay.specs.declared.replay.ReplayFault.{ReplayFault}
 use Rattle.script_replay.specs.declared.replay.ReplayFault.TheVariants as faults
 use Rattle.script_replay.specs.Replay.{IsRefused, Explains}
 

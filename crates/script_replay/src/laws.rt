@@ -1,9 +1,11 @@
 ghost use Rattle.std.specs.Prelude.{◌≡◌, ◌≤◌, ℕ, List, ◌++◌, length, Option, None, Some};
 ghost use Rattle.plant_book.specs.Book.{BookRecord};
 ghost use Rattle.plant_book.specs.Answered.{IsBook};
+ghost use Rattle.plant_book.specs.Life.{Life, IsLife};
 ghost use Rattle.script_text.specs.Text.{book_text};
 ghost use Rattle.script_replay.specs.declared.replay.ReplayFault.{ReplayFault};
 ghost use Rattle.script_replay.specs.Comments.{AreComments};
+ghost use Rattle.script_replay.specs.Lives.{HasComments, life_text};
 ghost use Rattle.script_replay.specs.Replay.{IsReplay, HasRoom, Explains};
 
 /// A script has one replay, of one text, or one fault. The text of a replay, as a script, is replayed as itself.
@@ -29,4 +31,11 @@ pub fn room_is_enough()
 pub fn books_replay_as_themselves()
     ensures { (book : BookRecord) (behind : List ℕ) → IsBook book → length book.entries ≤ book.site.room
         → AreComments behind → IsReplay (book_text book ++ behind) None (book_text book) }
+{}
+
+/// The text of a life that a ledger keeps, in one book or several, is replayed as that text, with comments between
+/// its lines or none.
+pub fn lives_replay_as_themselves()
+    ensures { (life : Life) (bytes : List ℕ) → IsLife life → HasComments (life_text life) bytes
+        → IsReplay bytes None (life_text life) }
 {}

@@ -9,5 +9,7 @@ mod playing;
 mod reading;
 mod replay;
 
-pub use laws::{books_replay_as_themselves, one_replay, room_is_enough};
+pub use laws::{
+    books_replay_as_themselves, lives_replay_as_themselves, one_replay, room_is_enough,
+};
 pub use replay::{ReplayFault, Replayed, replay_script};

@@ -70,11 +70,18 @@ spaces_plain (word ∷ words) plain =
     let parts = written_plain word words plain in
     plain_more (written word) (flat_map (λ word. 32 ∷ word) (map written words)) parts.0 (spaces_plain words parts.1)
 
-words_plain : (words : List Word) → texts_plain words ≡ true → is_plain (spaced (map written words)) ≡ true
+pub words_plain : (words : List Word) → texts_plain words ≡ true → is_plain (spaced (map written words)) ≡ true
 words_plain [] plain = refl
 words_plain (word ∷ words) plain =
     let parts = written_plain word words plain in
     plain_more (written word) (flat_map (λ word. 32 ∷ word) (map written words)) parts.0 (spaces_plain words parts.1)
+
+-- words with more words behind them
+pub texts_more : (words more : List Word) → texts_plain words ≡ true → texts_plain more ≡ true → texts_plain (words ++ more) ≡ true
+texts_more [] more p q = q
+texts_more (Text text ∷ words) more p q = let parts = both (is_plain text) (texts_plain words) p in rw parts.0 (texts_more words more parts.1 q)
+texts_more (Number number ∷ words) more p q = texts_more words more p q
+texts_more (Signed number ∷ words) more p q = texts_more words more p q
 
 -- a line that is written, with or without a reply
 
@@ -127,7 +134,7 @@ policy_plain : (policy : Policy) → is_plain (policy_word policy) ≡ true
 policy_plain policies.Open = refl
 policy_plain policies.Fair = refl
 
-statement_plain : (statement : Statement) → texts_plain (statement_words statement) ≡ true
+pub statement_plain : (statement : Statement) → texts_plain (statement_words statement) ≡ true
 statement_plain (Site cap send delay timer per_mille slack policy room) = rw (policy_plain policy) refl
 statement_plain (Inverter wmax wsf psf floor) = refl
 statement_plain (Begin at) = refl
@@ -143,7 +150,7 @@ statement_plain (Says (lines_of.One (calls.Cap at mw))) = refl
 statement_plain (Says (lines_of.Restart at)) = refl
 statement_plain (Says lines_of.Roll) = refl
 
-reply_plain : (reply : Reply) → texts_plain (reply_words reply) ≡ true
+pub reply_plain : (reply : Reply) → texts_plain (reply_words reply) ≡ true
 reply_plain (replies.Linked link) = refl
 reply_plain (replies.Granted write) = refl
 reply_plain (replies.ReadAs read) = refl

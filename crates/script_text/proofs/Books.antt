@@ -1,4 +1,4 @@
--- The statements of a book that a ledger keeps may follow each other.
+-- The statements of a life that a ledger keeps may follow each other.
 use Rattle.std.proofs.Common.{◌≡◌, ℕ, ◌^◌, ◌<◌, ◌≤◌, false, eqb, ltb, List, [], ◌∷◌, ◌++◌, length, map, Option, Some, None, refl, sym, subst, ◌∙◌, arith, append_assoc, length-append, ℤ, pos, negsuc}
 use Rattle.std.specs.Prelude.{IfSome, ◌≤ℤ◌}
 use Rattle.std.proofs.lemmas.Bool.{ne_eqb, le-ltb}
@@ -30,7 +30,7 @@ use Rattle.script_text.specs.declared.line.Line.{Line}
 use Rattle.script_text.specs.declared.line.Line.TheVariants as lines
 use Rattle.script_text.specs.Grammar.{Statement, Inverter, Begin, Says}
 use Rattle.script_text.specs.Script.{ScriptRecord, InRange, begins_in, MayFollow, EachMayFollow, site_statement, inverter_statement, head_statements, script_statements}
-use Rattle.script_text.specs.Text.{Deed, Entered, deed_line}
+use Rattle.script_text.specs.Text.{Deed, Entered, Begun, Rolled, deed_line}
 use Rattle.script_text.specs.Progress.{IsBegun}
 use Rattle.script_text.proofs.Steps.{begins_more, begun_on}
 use Rattle.script_text.proofs.Taken.{no_begins, head_begun}
@@ -153,27 +153,46 @@ call_follows site start entries before call few begun next = record {
   in_time = omega (arith, begun.latest_is, next.later);
 }
 
-entries_follow : (site : SiteRecord) (start : ℕ) (entries later : List Entry) (before : List Statement) → inverters site ≤ 64 → IsBegun (length site.units) (latest start entries) before
-    → EachInTurn (λ es entry. IsNext site start es entry.call) entries later → EachMayFollow before (map (λ line. Says line) (map deed_line (map (λ entry. Entered entry) later)))
-entries_follow site start entries [] before few begun each = tt
-entries_follow site start entries (entry ∷ later) before few begun each =
+-- the entries that were made
+abbrev pub entries_in : List Deed → List Entry
+entries_in [] = []
+entries_in (Entered entry ∷ deeds) = entry ∷ entries_in deeds
+entries_in (Begun at ∷ deeds) = entries_in deeds
+entries_in (Rolled ∷ deeds) = entries_in deeds
+
+-- none of these begins a life
+abbrev pub AreOfLife : List Deed → Type 0
+AreOfLife [] = Unit {0}
+AreOfLife (Entered entry ∷ deeds) = AreOfLife deeds
+AreOfLife (Begun at ∷ deeds) = ⊥
+AreOfLife (Rolled ∷ deeds) = AreOfLife deeds
+
+-- calls that are entered in turn, and rolls wherever they stand, may follow each other
+deeds_follow : (site : SiteRecord) (start : ℕ) (entries : List Entry) (deeds : List Deed) (before : List Statement) → inverters site ≤ 64 → IsBegun (length site.units) (latest start entries) before → AreOfLife deeds
+    → EachInTurn (λ es entry. IsNext site start es entry.call) entries (entries_in deeds) → EachMayFollow before (map (λ line. Says line) (map deed_line deeds))
+deeds_follow site start entries [] before few begun life each = tt
+deeds_follow site start entries (Entered entry ∷ deeds) before few begun life each =
     let line : Line = lines.One entry.call in
     let next : IsBegun (length site.units) (moment entry.call) (before ++ Says line ∷ []) = begun_on (length site.units) (latest start entries) before line begun in (
       call_follows site start entries before entry.call few begun each.0,
-      entries_follow site start (entries ++ entry ∷ []) later (before ++ Says line ∷ []) few
-          (subst (λ (n : ℕ). IsBegun (length site.units) n (before ++ Says line ∷ [])) (sym (latest-push start entries entry)) next) each.1,
+      deeds_follow site start (entries ++ entry ∷ []) deeds (before ++ Says line ∷ []) few
+          (subst (λ (n : ℕ). IsBegun (length site.units) n (before ++ Says line ∷ [])) (sym (latest-push start entries entry)) next) life each.1,
     )
+deeds_follow site start entries (Begun at ∷ deeds) before few begun life each = absurd life
+deeds_follow site start entries (Rolled ∷ deeds) before few begun life each = (
+  record { place = begun.begun; range = tt; of_site = tt; in_time = tt },
+  deeds_follow site start entries deeds (before ++ Says lines.Roll ∷ []) few (begun_on (length site.units) (latest start entries) before lines.Roll begun) life each,
+)
 
--- a book as a script: each of its calls
-abbrev pub book_deeds : BookRecord → List Deed
-book_deeds book = map (λ entry. Entered entry) book.entries
+-- what was done of a book of a life, as a script
+abbrev pub deeds_script : BookRecord → List Deed → ScriptRecord
+deeds_script book deeds = record { site = book.site; start = book.start; lines = map deed_line deeds }
 
-abbrev pub book_script : BookRecord → ScriptRecord
-book_script book = record { site = book.site; start = book.start; lines = map deed_line (book_deeds book) }
-
-pub book_follows : (book : BookRecord) → IsBook book → EachMayFollow [] (script_statements (book_script book))
-book_follows book kept =
+-- the calls of a book, wherever rolls stand between them, may follow each other
+pub life_follows : (book : BookRecord) (deeds : List Deed) → IsBook book → AreOfLife deeds → entries_in deeds ≡ book.entries → EachMayFollow [] (script_statements (deeds_script book deeds))
+life_follows book deeds kept life are =
     let head : List Statement = head_statements book.site book.start in
-    let its : List Statement = map (λ line. Says line) (map deed_line (book_deeds book)) in
+    let its : List Statement = map (λ line. Says line) (map deed_line deeds) in
+    let entered = subst (λ (es : List Entry). EachInTurn (λ before entry. IsNext book.site book.start before entry.call) [] es) (sym are) kept.entered in
     each_more [] head its (head_follows book.site book.start kept.openable.checked kept.start_high)
-    (entries_follow book.site book.start [] book.entries head kept.openable.few (head_is_begun book.site book.start) kept.entered)
+    (deeds_follow book.site book.start [] deeds head kept.openable.few (head_is_begun book.site book.start) life entered)

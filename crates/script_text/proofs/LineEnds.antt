@@ -1,6 +1,7 @@
 -- The lines of a text, one at its front after another: the bytes of a line, its end, and what stands behind.
-use Rattle.std.proofs.Common.{◌≡◌, ℕ, suc, ◌-◌, ◌≤◌, Bool, true, false, cond, eqb, ◌||◌, ◌&&◌, ◌⊎◌, inl, inr, List, [], ◌∷◌, ◌++◌, length, get_or, Option, Some, None, refl, sym, ap, ◌∙◌, arith}
+use Rattle.std.proofs.Common.{◌≡◌, ℕ, zero, suc, ◌-◌, ◌≤◌, Bool, true, false, cond, eqb, ◌||◌, ◌&&◌, ◌⊎◌, inl, inr, List, [], ◌∷◌, ◌++◌, length, get_or, Option, Some, None, refl, sym, ap, ◌∙◌, arith}
 use Rattle.std.specs.List.{slice_split}
+use Rattle.std.specs.Str.Iter.{LacksByte}
 use Rattle.std.specs.Str.Lines.{lines, lines_of_parts, strip_carriage_return}
 use Rattle.std.proofs.lemmas.Bool.{eqb-true, cases_Bool, ne_eqb, and_parts}
 use Rattle.std.proofs.lemmas.Bool.Decides.{nat_tests}
@@ -114,6 +115,12 @@ plain_parts byte more plain =
       | inl bad ↦ absurd cc
       | inr good ↦ (grind (arith, nat_tests, good.0), grind (arith, nat_tests, good.0), good.1)
     ]
+
+-- and none of it is a line feed
+pub plain_lacks : (text : List ℕ) → is_plain text ≡ true → LacksByte 10 text
+plain_lacks [] plain k low is = omega (arith, low)
+plain_lacks (byte ∷ more) plain zero low is = let no : true ≡ false = rw is at (plain_parts byte more plain).0 in absurd cc
+plain_lacks (byte ∷ more) plain (suc k) low is = plain_lacks more (plain_parts byte more plain).2 k (omega (arith, low)) is
 
 pub plain_more : (a b : List ℕ) → is_plain a ≡ true → is_plain b ≡ true → is_plain (a ++ b) ≡ true
 plain_more [] b p q = q
