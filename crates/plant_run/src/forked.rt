@@ -12,6 +12,7 @@ ghost use Rattle.plant_run.specs.Running.{EachWorker, IsNew, IsOfSite, Differ, S
 ghost use Rattle.plant_run.specs.Forked.{AllRunOut, EachReady, IsForked};
 
 use crate::crew::work_apart;
+use ledger_desk::Desk;
 use limiter_num::NoMemory;
 use operator_console::{ConsoleEnd, console};
 use plant_desk::{DeskOf, Pass, PlantDesk};
@@ -159,8 +160,8 @@ fn desks_of<'a, R: Wait>(
 
 /// Gives the workers their turns and the console its lines, all at once. It ends when all are over.
 fn work_and_listen<
-    'a,
-    R: Threads + Wait + Sync,
+    R: Threads + Sync,
+    D: Desk + Send,
     N: Dialer + Send,
     K: Clock + Sync,
     C: Source + Send,
@@ -169,8 +170,8 @@ fn work_and_listen<
     rt: &R,
     alloc: Global,
     inverters: u32,
-    desks: &mut [DeskOf<'a, R>],
-    operator: &mut DeskOf<'a, R>,
+    desks: &mut [D],
+    operator: &mut D,
     workers: &mut [Worker],
     dialers: &mut [N],
     clock: &K,
@@ -178,33 +179,33 @@ fn work_and_listen<
     out: &mut O,
 ) -> ConsoleEnd
     requires few { inverters ≤ 64 }
-    requires of_desk { inverters ≡ (state_of operator.old).inverters }
+    requires of_desk { inverters ≡ (D.state operator.old).inverters }
     requires desks { length desks.old ≡ length workers.old }
     requires dialers { length dialers.old ≡ length workers.old }
-    requires ready { EachReady state_of workers.old desks.old }
-    ensures workers { AllRunOut state_of tests_of identity N.links N.faults (K.may_give clock.now) workers.old workers.new
+    requires ready { EachReady D.state workers.old desks.old }
+    ensures workers { AllRunOut D.state D.tests D.kept N.links N.faults (K.may_give clock.now) workers.old workers.new
         desks.old desks.new dialers.old dialers.new }
-    ensures console { IsTranscript result (console_tests (K.may_give clock.now) (tests_of operator.new))
-        (tests_of operator.new).was_full (state_of operator.old) (state_of operator.new)
+    ensures console { IsTranscript result (console_tests (K.may_give clock.now) (D.tests operator.new))
+        (D.tests operator.new).was_full (D.state operator.old) (D.state operator.new)
         (C.left input.old) (C.left input.new) (O.taken out.old) (O.taken out.new) }
-    ensures kept { identity operator.new ≡ identity operator.old }
+    ensures kept { D.kept operator.new ≡ D.kept operator.old }
     ensures input_faults { HasCause (C.faults input.old) (C.faults input.new) (at_input result) }
     ensures output_faults { HasCause (O.faults out.old) (O.faults out.new) (at_output result) }
     ensures stops { O.faults out.old ≡ 0 → O.late out.new ≡ O.late out.old }
 {
     let mut crew = ||
-        requires { IsSync R.row × IsSync K.row × IsSend N.row
+        requires { IsSync R.row × IsSync K.row × IsSend D.row × IsSend N.row
             × (length desks.now ≡ length workers.now) × (length dialers.now ≡ length workers.now)
-            × EachReady state_of workers.now desks.now }
-        ensures { AllRunOut state_of tests_of identity N.links N.faults (K.may_give clock.entry.now) workers.entry.now
+            × EachReady D.state workers.now desks.now }
+        ensures { AllRunOut D.state D.tests D.kept N.links N.faults (K.may_give clock.entry.now) workers.entry.now
             workers.exit.now desks.entry.now desks.exit.now dialers.entry.now dialers.exit.now }
     { work_apart(rt, clock, workers, desks, dialers) };
     let mut listen = || -> ConsoleEnd
-        requires { (inverters ≤ 64) × (inverters ≡ (state_of operator.now).inverters) }
-        ensures transcript { IsTranscript result (console_tests (K.may_give clock.entry.now) (tests_of operator.exit.now))
-            (tests_of operator.exit.now).was_full (state_of operator.entry.now) (state_of operator.exit.now)
+        requires { (inverters ≤ 64) × (inverters ≡ (D.state operator.now).inverters) }
+        ensures transcript { IsTranscript result (console_tests (K.may_give clock.entry.now) (D.tests operator.exit.now))
+            (D.tests operator.exit.now).was_full (D.state operator.entry.now) (D.state operator.exit.now)
             (C.left input.entry.now) (C.left input.exit.now) (O.taken out.entry.now) (O.taken out.exit.now) }
-        ensures kept { identity operator.exit.now ≡ identity operator.entry.now }
+        ensures kept { D.kept operator.exit.now ≡ D.kept operator.entry.now }
         ensures input_faults { HasCause (C.faults input.entry.now) (C.faults input.exit.now) (at_input result) }
         ensures output_faults { HasCause (O.faults out.entry.now) (O.faults out.exit.now) (at_output result) }
         ensures stops { O.faults out.entry.now ≡ 0 → O.late out.exit.now ≡ O.late out.entry.now }
