@@ -86,6 +86,8 @@ pub fn run_forked<
     ensures untouched { OnErr result ((workers.new.items ≡ workers.old.items) × (dialers.new.items ≡ dialers.old.items)
         × (input.new ≡ input.old) × (out.new ≡ out.old)) }
 {
+    let calls = plant.calls();
+    prove!(calls == 0);
     let inverters = plant.site().units.len() as u32;
     let count = workers.len() as u32;
     let (desk, passes) = PlantDesk::new(alloc, plant, count + 1)?;
