@@ -1,14 +1,13 @@
 -- Workers and a console at one desk, all at once: how they begin, and what they did on one life.
-use Rattle.std.proofs.Common.{◌≡◌, ℕ, zero, suc, ◌+◌, ◌<◌, ◌≤◌, Bool, List, [], ◌∷◌, ◌++◌, length, map, get_or, Option, Some, refl, sym, ap, subst, ◌∙◌, arith, length-append, ◌⊎◌, inl, inr}
+use Rattle.std.proofs.Common.{◌≡◌, ℕ, zero, suc, ◌+◌, ◌<◌, ◌≤◌, Bool, List, [], ◌∷◌, ◌++◌, length, map, get_or, Option, Some, refl, sym, ap, subst, ◌∙◌, arith, length-append, inl, inr}
 use Rattle.std.specs.Prelude.{All, slice_get}
 use Rattle.std.specs.List.{range_with_len}
 use Rattle.std.proofs.lemmas.List.FromFn.{length-map-range_with_len, get_or-map-range_with_len, map-range_with_len_more}
 use Rattle.std.proofs.lemmas.Option.{slice_get_within, slice_get-get_or, get_or_from_slice_get}
 use Rattle.world_traits.specs.Links.{Links}
-use Rattle.plant_book.specs.Site.{SiteRecord, inverters}
-use Rattle.plant_book.specs.declared.book.Entry.{Entry}
-use Rattle.plant_book.specs.Part.{PartRecord, first_book}
-use Rattle.plant_book.specs.Life.{Life, joined_book}
+use Rattle.plant_book.specs.Site.{inverters}
+use Rattle.plant_book.specs.Part.{PartRecord}
+use Rattle.plant_book.specs.Life.{joined_book}
 use Rattle.plant_desk.specs.Passes.{DeskRecord, PassRecord, new_pass, IsNewDesk, IsClosed}
 use Rattle.plant_desk.specs.DeskOf.{state_of, tests_of, identity}
 use Rattle.plant_desk.proofs.Standing.{is_made_up}

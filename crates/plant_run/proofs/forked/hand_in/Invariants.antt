@@ -1,4 +1,4 @@
-use Rattle.std.proofs.Common.{◌≡◌, ◌<◌, ◌≤◌, ◌++◌, ◌+◌, ◌∷◌, length, vec_len, vec_capacity}
+use Rattle.std.proofs.Common.{◌≡◌, ◌≤◌, ◌++◌, ◌+◌, ◌∷◌, length, vec_capacity}
 use Rattle.plant_run.proofs.forked.hand_in.Given as goal
 
 -- the console's pass and those of the desks so far, and room for the others

@@ -1,4 +1,4 @@
-use Rattle.std.proofs.Common.{◌≡◌, ◌≤◌, ◌+◌, ◌++◌, ◌∷◌, [], ℕ, List, length, refl, sym, ap, subst, ◌∙◌, arith, length-append}
+use Rattle.std.proofs.Common.{◌≡◌, ◌+◌, ◌++◌, ◌∷◌, List, length, sym, ap, subst, ◌∙◌, arith, length-append}
 use Rattle.std.proofs.lemmas.List.FromFn.{length-map-range_with_len}
 use Rattle.plant_book.specs.Site.{SiteRecord, inverters}
 use Rattle.plant_desk.specs.Passes.{PassRecord, new_pass}
@@ -8,7 +8,6 @@ use Rattle.plant_run.specs.Forked.{EachReady}
 use Rattle.plant_run.proofs.Few.{few}
 use Rattle.plant_run.proofs.Whole.{lent}
 use Rattle.plant_run.proofs.Together.{numbered, seats_count, ready, operators_inverters, stay_behind, handed_of_desk, handed_all, forked_whole}
-use Rattle.plant_run.proofs.forked.run_forked.Given as given
 use Rattle.plant_run.proofs.forked.run_forked.Goals as goal
 
 -- there are no more workers than inverters
