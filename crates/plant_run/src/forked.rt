@@ -2,12 +2,9 @@
 ghost use Rattle.std.specs.Prelude.{◌≡◌, ◌<◌, ◌≤◌, ◌+◌, [], ◌∷◌, ◌++◌, All, length, vec_len, vec_capacity, None, IfOk, OnErr};
 ghost use denote.Param.Send.{IsSend, IsSync};
 ghost use Rattle.world_traits.specs.Causes.{HasCause};
-ghost use Rattle.plant_book.specs.Site.{inverters};
-ghost use Rattle.ledger_desk.specs.Desk.{TestsLast};
 ghost use Rattle.operator_console.specs.Deeds.{tests_of as console_tests};
 ghost use Rattle.operator_console.specs.Transcript.{IsTranscript, at_input, at_output};
-ghost use Rattle.plant_desk.specs.Passes.{IsClosed, IsNewDesk};
-ghost use Rattle.plant_desk.specs.DeskOf.{identity, state_of, tests_of};
+ghost use Rattle.plant_desk.specs.Passes.{IsClosed};
 ghost use Rattle.plant_run.specs.Running.{EachWorker, IsNew, IsOfSite, Differ, StayBehind};
 ghost use Rattle.plant_run.specs.Forked.{AllRunOut, EachReady, IsForked};
 
@@ -86,6 +83,7 @@ pub fn run_forked<
     ensures untouched { OnErr result ((workers.new.items ≡ workers.old.items) × (dialers.new.items ≡ dialers.old.items)
         × (input.new ≡ input.old) × (out.new ≡ out.old)) }
 {
+    // A plant keeps a book that may be opened, so it has 64 inverters at most.
     let calls = plant.calls();
     prove!(calls == 0);
     let inverters = plant.site().units.len() as u32;
