@@ -1,3 +1,4 @@
+mod console;
 mod links;
 mod loopback;
 mod one_inverter;

@@ -14,6 +14,8 @@ use commission_command::commission;
 use run_command::run;
 use serve_command::serve;
 use std::alloc::Global;
+use std::sync::Wait;
+use std::thread::Threads;
 use world_traits::{Clock, Dialer, Sink, Source};
 
 /// Does a task with one dialer.
@@ -61,11 +63,20 @@ fn run_with_first<S: Source, O: Sink, N: Dialer, K: Clock>(
 }
 
 /// Does over links what the words of the command line ask for; each task reads the site file first. `run T` runs the
-/// plant: a worker of so many turns keeps the limit of each inverter over the dialer of its number, and then the text
-/// of the book is written, and how each worker ended. `commission I` commissions the inverter of this number over the
-/// first dialer, and `serve I T` serves a simulation of it in so many turns. The console isn't read yet. It may wait,
-/// as the dialers and the clock may.
-pub fn live<S: Source, C: Source + Send, O: Sink + Send, N: Dialer + Send, K: Clock + Sync>(
+/// plant: a worker of so many turns keeps the limit of each inverter over the dialer of its number, and the console
+/// follows an operator's orders, each in a thread of its own. What the console tells is written at once, and when all
+/// are over the text of the book and how each worker ended. `commission I` commissions the inverter of this number over
+/// the first dialer, and `serve I T` serves a simulation of it in so many turns. It may wait, as the dialers, the clock
+/// and the console may.
+pub fn live<
+    R: Threads + Wait + Sync,
+    S: Source,
+    C: Source + Send,
+    O: Sink + Send,
+    N: Dialer + Send,
+    K: Clock + Sync,
+>(
+    rt: &R,
     alloc: Global,
     words: &Vec<String>,
     site: &mut S,
@@ -82,7 +93,8 @@ pub fn live<S: Source, C: Source + Send, O: Sink + Send, N: Dialer + Send, K: Cl
         × ((turns : ℕ) → AreRun (map string_bytes words.now.items) turns → ⊥) }
     ensures untouched { result ≡ Ended.BadWords
         → (site.new ≡ site.old) × (out.new ≡ out.old) × (dialers.new.items ≡ dialers.old.items) }
-    ensures console { console.new ≡ console.old }
+    ensures console { ((turns : ℕ) → AreRun (map string_bytes words.now.items) turns → ⊥)
+        → console.new ≡ console.old }
     ensures other_dialers { ((turns : ℕ) → AreRun (map string_bytes words.now.items) turns → ⊥)
         → drop 1 dialers.new.items ≡ drop 1 dialers.old.items }
     ensures as_many { length dialers.new.items ≡ 64 }
@@ -94,10 +106,11 @@ pub fn live<S: Source, C: Source + Send, O: Sink + Send, N: Dialer + Send, K: Cl
     // comes.
     ensures run { (turns : ℕ) → AreRun (map string_bytes words.now.items) turns
         → (read : List ℕ) × IsRunEnd N.links N.faults (K.may_give clock.now) turns read
-        (change S.left S.faults site.old site.new) (change O.taken O.faults out.old out.new)
-        dialers.old.items dialers.new.items result }
+        (change S.left S.faults site.old site.new) (change C.left C.faults console.old console.new)
+        (change O.taken O.faults out.old out.new) dialers.old.items dialers.new.items result }
     ensures run_due { (turns : ℕ) → AreRun (map string_bytes words.now.items) turns
-        → IsRunDue result (change S.left S.faults site.old site.new) (change O.taken O.faults out.old out.new) }
+        → IsRunDue result (change S.left S.faults site.old site.new)
+        (change C.left C.faults console.old console.new) (change O.taken O.faults out.old out.new) }
     ensures commission { (inverter : ℕ) → Ask (map string_bytes words.now.items) (Task.Commission inverter)
         → (read : List ℕ) × IsCommissionEnd inverter read (change S.left S.faults site.old site.new)
         (change O.taken O.faults out.old out.new) (first_dialing N.links N.faults dialers.old.items dialers.new.items) result }
@@ -112,11 +125,10 @@ pub fn live<S: Source, C: Source + Send, O: Sink + Send, N: Dialer + Send, K: Cl
     ensures serve_writes_nothing { (inverter turns : ℕ) → Ask (map string_bytes words.now.items) (Task.Serve inverter turns)
         → out.new ≡ out.old }
 {
-    let _ = console;
     match task_of(words) {
         Some(task) => run_with_first(alloc, task, site, out, dialers, clock),
         None => match turns_of_run(words) {
-            Some(turns) => run(alloc, turns, site, out, dialers, clock),
+            Some(turns) => run(rt, alloc, turns, site, console, out, dialers, clock),
             None => Ended::BadWords,
         },
     }

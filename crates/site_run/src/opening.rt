@@ -7,7 +7,6 @@ ghost use Rattle.plant_book.specs.Answered.{IsOpenable};
 ghost use Rattle.site_config.specs.SiteFile.{SiteFileRecord, IsInRange};
 ghost use Rattle.site_run.specs.Run.{AreSeated, IsOpened};
 
-use crate::run::Ran;
 use inverter_worker::Job;
 use limiter_num::NoMemory;
 use plant_book::{MOMENT_MAX, Port, Site};
@@ -15,6 +14,13 @@ use plant_ledger::Plant;
 use site_config::SiteFile;
 use std::alloc::Global;
 use worker_turn::Worker;
+
+/// A ledger before its first call, and the worker of each inverter before its first turn.
+#[derive(Drop)]
+pub struct Opening {
+    pub plant: Plant,
+    pub workers: Vec<Worker>,
+}
 
 /// When a worker asks anew, rests and stops waiting, in ms.
 #[derive(Clone, Copy)]
@@ -59,7 +65,7 @@ fn workers_of(
 }
 
 /// The ledger of a site, whose life begins at a moment in ms, and its workers before their first turns.
-pub fn open_site(alloc: Global, file: SiteFile, turns: u32, start: u64) -> Result<Ran, NoMemory>
+pub fn open_site(alloc: Global, file: SiteFile, turns: u32, start: u64) -> Result<Opening, NoMemory>
     requires openable { IsOpenable file.site }
     requires in_range { IsInRange file }
     requires start { start ≤ MOMENT_MAX }
@@ -75,7 +81,7 @@ pub fn open_site(alloc: Global, file: SiteFile, turns: u32, start: u64) -> Resul
     let pace = Pace { renew, pause, wait };
     let workers = workers_of(alloc, &site, ports, pace, turns)?;
     match Plant::open(alloc, site, start) {
-        Ok(plant) => Ok(Ran { plant, workers }),
+        Ok(plant) => Ok(Opening { plant, workers }),
         Err(_) => Err(NoMemory),
     }
 }

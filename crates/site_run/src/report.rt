@@ -1,35 +1,37 @@
-//! What is told of a run: the text of its book, a line for each worker, and how it ended.
-ghost use Rattle.std.specs.Prelude.{◌≡◌, ◌≤◌, ◌++◌, length, IfOk, IsOk, None, OnOk, Some};
-ghost use Rattle.plant_book.specs.Part.{first_book};
-ghost use Rattle.plant_book.specs.Answered.{IsBook};
-ghost use Rattle.script_text.specs.Text.{book_text};
-ghost use Rattle.script_replay.specs.Replay.{IsReplay};
+//! What is told of a run: the text of its last book, a line for each worker, and how it finished.
+ghost use Rattle.std.specs.Prelude.{◌≡◌, ◌++◌, IfOk, OnOk, Some};
 ghost use Rattle.std.specs.List.{list_any};
-ghost use Rattle.site_run.specs.Report.{end_name, end_of_run, found_full, lacks_memory};
-ghost use Rattle.site_run.specs.Report.{text_of_run, worker_line, worker_lines};
+ghost use Rattle.operator_console.specs.Comments.{head_before};
+ghost use Rattle.site_run.specs.Report.{end_name, finish_behind, finish_of, found_full, lacks_memory, last_text};
+ghost use Rattle.site_run.specs.Report.{text_of_run, worker_line, worker_lines, wrote_whole};
 
 use crate::run::Ran;
 use inverter_worker::End;
 use limiter_num::NoMemory;
+use operator_console::ConsoleEnd;
 use plant_ledger::Plant;
-use script_replay::books_replay_as_themselves;
 use script_text::{entry_text, head_text};
 use std::alloc::{AllocError, Global};
 use std::fmt;
 use std::fmt::{Display, Formatter};
 use worker_turn::Worker;
 
-/// How a run ended, by how its workers did.
+/// How a run finished, by how its workers and its console did.
 #[derive(Clone, Copy, Debug, PartialEq, Eq)]
-pub enum RunEnd {
-    /// Each worker made its turns, or met an inverter that isn't as it was commissioned.
+pub enum Finish {
+    /// Each worker made its turns, or met an inverter that isn't as it was commissioned, and the console was stopped
+    /// or came to the end of its input.
     Done,
-    /// A worker found the book full.
+    /// A worker or the console found a book full.
     BookFull {
-        /// The calls of the book, which are its room.
+        /// The calls of that book, which are its room.
         calls: u32,
     },
-    /// A worker ran out of memory.
+    /// A read of the console failed.
+    ReadFault,
+    /// A write of the console failed.
+    WriteFault,
+    /// A worker or the console ran out of memory.
     NoMemory,
 }
 
@@ -85,34 +87,46 @@ fn put_workers(alloc: Global, text: &mut Vec<u8>, workers: &[Worker]) -> Result<
     Ok(())
 }
 
-/// Adds the text of the book of a life.
-fn put_book(text: &mut Vec<u8>, plant: &Plant) -> Result<(), NoMemory>
-    ensures text { OnOk result (text.new.items ≡ text.old.items ++ book_text (first_book plant.now)) }
-    ensures room { OnOk result (length plant.now.entries ≤ plant.now.site.room) }
+/// Adds the head of a life, where no book of it ended before.
+fn put_head(text: &mut Vec<u8>, plant: &Plant) -> Result<(), NoMemory>
+    ensures { OnOk result (text.new.items ≡ text.old.items
+        ++ head_before plant.now.site plant.now.start plant.now.carry) }
 {
-    head_text(text, plant.site(), plant.start())?;
+    match plant.carry() {
+        Some(_) => Ok(()),
+        None => head_text(text, plant.site(), plant.start()),
+    }
+}
+
+/// Adds the text of the last book of a life.
+fn put_book(text: &mut Vec<u8>, plant: &Plant) -> Result<(), NoMemory>
+    ensures { OnOk result (text.new.items ≡ text.old.items ++ last_text plant.now) }
+{
+    put_head(text, plant)?;
     for place in 0..plant.calls() {
         entry_text(text, &plant.entry(place))?;
     }
     Ok(())
 }
 
-/// The text of a run: that of its book, and a comment line for each worker with how it is over.
+/// The text of a run behind what its console wrote: that of its last book, and a comment line for each worker with how
+/// it is over.
 pub fn run_text(alloc: Global, ran: &Ran) -> Result<Vec<u8>, NoMemory>
-    ensures text { IfOk result (λ text. text.items ≡ text_of_run ran.now.plant ran.now.workers.items) }
-
-    // As a script it is replayed as the text of its book.
-    ensures replays { IfOk result (λ text. IsBook (first_book ran.now.plant)
-        → IsReplay text.items None (book_text (first_book ran.now.plant))) }
-    ensures room { IsOk result → length ran.now.plant.entries ≤ ran.now.plant.site.room }
+    ensures { IfOk result (λ text. text.items ≡ text_of_run ran.now.plant ran.now.workers.items) }
 {
-    books_replay_as_themselves();
     let mut text = Vec::new(alloc);
     put_book(&mut text, &ran.plant)?;
     match put_workers(alloc, &mut text, &ran.workers) {
         Ok(()) => Ok(text),
         Err(_) => Err(NoMemory),
     }
+}
+
+/// Whether a console that ended so wrote its last text whole. Else nothing is to be written behind it.
+pub fn wrote_whole(console: ConsoleEnd) -> bool
+    ensures { result ≡ wrote_whole console }
+{
+    !matches!(console, ConsoleEnd::WriteFault | ConsoleEnd::NoMemory)
 }
 
 /// Whether a worker is over for want of memory.
@@ -143,16 +157,28 @@ fn one_found_full(workers: &[Worker]) -> bool
     workers.iter().any(|worker| found_full(worker))
 }
 
-/// How a run ended: out of memory where a worker was, else at a full book where a worker was.
-pub fn run_end(ran: &Ran) -> RunEnd
-    ensures { result ≡ end_of_run ran.now.plant ran.now.workers.items }
+/// How a run finished by how its console ended, and by whether a worker found a book full, which has so much room.
+fn finish_behind(room: u32, full: bool, console: ConsoleEnd) -> Finish
+    ensures { result ≡ finish_behind room full console }
+{
+    match console {
+        ConsoleEnd::NoMemory => Finish::NoMemory,
+        ConsoleEnd::WriteFault => Finish::WriteFault,
+        ConsoleEnd::ReadFault => Finish::ReadFault,
+        ConsoleEnd::BookFull => Finish::BookFull { calls: room },
+        ConsoleEnd::Ended | ConsoleEnd::Stopped if full => Finish::BookFull { calls: room },
+        ConsoleEnd::Ended | ConsoleEnd::Stopped => Finish::Done,
+    }
+}
+
+/// How a run finished: out of memory where a worker or the console was; else at a fault of the console; else at a full
+/// book where one of them found one.
+pub fn finish_of(ran: &Ran) -> Finish
+    ensures { result ≡ finish_of ran.now.plant ran.now.workers.items ran.now.console }
 {
     if one_lacks_memory(&ran.workers) {
-        return RunEnd::NoMemory;
+        return Finish::NoMemory;
     }
-    if one_found_full(&ran.workers) {
-        let calls = ran.plant.calls();
-        return RunEnd::BookFull { calls };
-    }
-    RunEnd::Done
+    let room = ran.plant.site().room;
+    finish_behind(room, one_found_full(&ran.workers), ran.console)
 }

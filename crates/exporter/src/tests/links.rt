@@ -9,31 +9,59 @@ use limiter_num::{Rating, Rules};
 use plant_book::Unit;
 use std::alloc::{AllocError, Global};
 use std::process::Abort;
+use std::sync::Wait;
 use std::test::Fail;
+use std::thread::Threads;
 use world_traits::{BytesSink, BytesSource, Clock, Dialer, PlayDialer, PlayLink, StepClock};
 
 /// The number of a read or a write that isn't reached.
 pub const NONE: u32 = 99;
 
-/// How `live` ends with these words and this site file, and what it writes. The read of the site file and the write of
-/// these numbers fail. Without 64 dialers it ends as with bad words.
-pub fn run_over<N: Dialer + Send, K: Clock + Sync>(
+/// What the command line, the site file and the console hold, and which calls on them and on the output fail.
+#[derive(Clone, Copy)]
+pub struct Given<'a> {
+    /// The words of the command line, with a space between two.
+    pub line: &'a str,
+    pub site: &'a str,
+    /// The lines that are typed into the console.
+    pub typed: &'a str,
+    /// The numbers of the read of the site file, of that of the console, and of the write that fail.
+    pub fails: (u32, u32, u32),
+}
+
+/// Words for this site file, where nobody types, and nothing fails.
+pub fn unattended<'a>(line: &'a str, site: &'a str) -> Given<'a> {
+    Given {
+        line,
+        site,
+        typed: "",
+        fails: (NONE, NONE, NONE),
+    }
+}
+
+/// A source of the bytes of a text, whose read of this number fails.
+fn source(alloc: Global, text: &str, fails: u32) -> Result<BytesSource, AllocError> {
+    let bytes = Vec::from_slice(alloc, text.as_bytes())?;
+    Ok(BytesSource::new(bytes, vec![in alloc; fails]?))
+}
+
+/// How `live` ends with what is given, and what it writes. Without 64 dialers it ends as with bad words.
+pub fn run_over<R: Threads + Wait + Sync, N: Dialer + Send, K: Clock + Sync>(
+    rt: &R,
     alloc: Global,
-    line: &str,
-    site: &str,
-    fails: (u32, u32),
+    given: Given,
     dialers: &mut Vec<N>,
     clock: &K,
 ) -> Result<(Ended, BytesSink), AllocError> {
-    let words = words(alloc, line)?;
-    let site = Vec::from_slice(alloc, site.as_bytes())?;
-    let mut site = BytesSource::new(site, vec![in alloc; fails.0]?);
-    let mut console = BytesSource::new(Vec::new(alloc), Vec::new(alloc));
-    let mut out = BytesSink::new(alloc, vec![in alloc; fails.1]?);
+    let words = words(alloc, given.line)?;
+    let mut site = source(alloc, given.site, given.fails.0)?;
+    let mut console = source(alloc, given.typed, given.fails.1)?;
+    let mut out = BytesSink::new(alloc, vec![in alloc; given.fails.2]?);
     if dialers.len() != 64 {
         return Ok((Ended::BadWords, out));
     }
     let ended = live(
+        rt,
         alloc,
         &words,
         &mut site,

@@ -1,6 +1,6 @@
 //! `live` over the links of one inverter, and of two of which one at most is reached.
-use super::links::{NONE, devices, players, run_over};
-use super::sites::{INVERTER, Inverter, PLANT, site_file};
+use super::links::{Given, NONE, devices, players, run_over, unattended};
+use super::sites::{INVERTER, Inverter, PLANT, Plant, site_file};
 use super::{comes_to, first_lines};
 use exporter_commands::{Ended, LiveFault};
 use std::test::Fail;
@@ -18,15 +18,19 @@ fn an_inverter_is_commissioned_and_a_file_or_an_output_fails(rt: HostRuntime) ->
 
     // The second read finds the end of the file. Commissioning writes two lines, each by itself.
     let rows = [
-        ("commission 0", (NONE, NONE), Ended::Done, 2),
-        ("commission 0", (1, NONE), Ended::ReadFault, 0),
-        ("commission 0", (NONE, 1), Ended::WriteFault, 1),
-        ("run 1", (NONE, 0), Ended::WriteFault, 0),
+        ("commission 0", (NONE, NONE, NONE), Ended::Done, 2),
+        ("commission 0", (1, NONE, NONE), Ended::ReadFault, 0),
+        ("commission 0", (NONE, NONE, 1), Ended::WriteFault, 1),
+        ("run 1", (NONE, NONE, 0), Ended::WriteFault, 0),
     ];
     for (line, fails, end, lines) in rows {
         let clock = StepClock::new(0, 1);
         let mut dialers = devices(&rt, alloc, 6_000, &clock, false)?;
-        let came = run_over(alloc, line, site.as_str(), fails, &mut dialers, &clock)?;
+        let given = Given {
+            fails,
+            ..unattended(line, site.as_str())
+        };
+        let came = run_over(&rt, alloc, given, &mut dialers, &clock)?;
         let text = first_lines(alloc, COMMISSIONED, lines)?;
         comes_to(&rt, line, &came, end, text.as_str());
     }
@@ -62,9 +66,9 @@ fn a_link_that_takes_half_a_request_and_one_that_is_served(rt: HostRuntime) -> R
         let moves = vec![in alloc; Move::Bytes(Vec::from_slice(alloc, heard)?)]?;
         let links = vec![in alloc; PlayLink { takes, moves }]?;
         let mut dialers = players(alloc, links, Vec::new(alloc))?;
-        let fails = (NONE, NONE);
         let clock = StepClock::new(0, 1);
-        let came = run_over(alloc, line, site.as_str(), fails, &mut dialers, &clock)?;
+        let given = unattended(line, site.as_str());
+        let came = run_over(&rt, alloc, given, &mut dialers, &clock)?;
         comes_to(&rt, line, &came, end, "");
         let log = dialers.first().ok_or("the first dialer")?.log();
         let link = log.link(0).ok_or("its link")?;
@@ -94,6 +98,9 @@ read 4 0 = readas 1 1
 /// The request of the first read-back.
 const LIMIT_READ: [u8; 12] = [0, 1, 0, 0, 0, 6, 1, 3, 0x9D, 0x76, 0, 8];
 
+/// A plant whose workers don't rest, so that none of them sets the clock forward for the other.
+const RESTLESS: Plant = Plant { pause: 0, ..PLANT };
+
 /// Two inverters at hosts of their own.
 const PAIR: [Inverter; 2] = [
     Inverter {
@@ -110,7 +117,7 @@ const PAIR: [Inverter; 2] = [
 #[test]
 fn two_inverters_without_a_link_and_with_one_that_is_silent(rt: HostRuntime) -> Result<(), Fail> {
     let alloc = rt.alloc();
-    let site = site_file(alloc, PLANT, &PAIR)?;
+    let site = site_file(alloc, RESTLESS, &PAIR)?;
     for (count, calls) in [(0, ""), (1, UNANSWERED)] {
         let mut links = Vec::new(alloc);
         for _ in 0..count {
@@ -119,9 +126,9 @@ fn two_inverters_without_a_link_and_with_one_that_is_silent(rt: HostRuntime) -> 
             links.push(PlayLink { takes, moves })?;
         }
         let mut dialers = players(alloc, links, Vec::new(alloc))?;
-        let fails = (NONE, NONE);
         let clock = StepClock::new(0, 1);
-        let came = run_over(alloc, "run 1", site.as_str(), fails, &mut dialers, &clock)?;
+        let given = unattended("run 1", site.as_str());
+        let came = run_over(&rt, alloc, given, &mut dialers, &clock)?;
         let text = format!(in alloc; "{PAIR_BEGUN}{calls}{PAIR_ENDS}")?;
         comes_to(&rt, calls, &came, Ended::Done, text.as_str());
         let log = dialers.first().ok_or("the first dialer")?.log();

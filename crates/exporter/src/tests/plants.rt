@@ -1,5 +1,5 @@
 //! `run` over simulated inverters in memory.
-use super::links::{NONE, devices, run_over};
+use super::links::{NONE, devices, run_over, unattended};
 use super::plain_commands;
 use super::sites::{Inverter, PLANT, Plant, site_file};
 use exporter_commands::Ended;
@@ -39,30 +39,46 @@ fn is_cut(link: &Link) -> bool {
     link.sent().len() % READ_BYTES == 7 && link.sent().ends_with(&CUT_END)
 }
 
-/// The last request of the other inverter: behind a read-back in each of its 200 turns, and 17 writes, one each 20 s
-/// from the 68th second to the 401st.
-const OTHERS_LAST: [u8; READ_BYTES] = [0, 217, 0, 0, 0, 6, 1, 3, 0x9D, 0x76, 0, 8];
-
-/// What a read-back on a new link shows before the write's window has passed, and behind it.
-const RESERVED: &str = "link 70351 0 = linked 2
-read 70351 0 = readas 2 1
-saw 70351 0 1 100 = freed 0 3996000
-read 75000 0 = readas 2 2
-saw 75000 0 2 100 = freed 1 600000
-";
-
-/// The lives of a text up to its second link of an inverter, and these lines.
-fn before_second_link(alloc: Global, text: &str, behind: &str) -> Result<String, AllocError> {
-    let mut lives = String::new(alloc);
-    for line in text
-        .lines()
-        .take_while(|line| !line.ends_with("= linked 2"))
-    {
-        lives.push_str(line)?;
-        lives.push_str("\n")?;
+/// When a write of the first inverter was granted, in ms, and its raw percentage, by the line of its ask.
+fn granted_first(line: &str) -> Option<(u64, u64)> {
+    let rest = line.strip_prefix("ask ")?;
+    let (call, reply) = rest.split_once(" = ")?;
+    if !reply.starts_with("granted ") {
+        return None;
     }
-    lives.push_str(behind)?;
-    Ok(lives)
+    let mut words = call.split(' ');
+    let at = words.next()?.parse::<u64>().ok()?;
+    if words.next() != Some("0") {
+        return None;
+    }
+    let raw = words.next()?.parse::<u64>().ok()?;
+    Some((at, raw))
+}
+
+/// The text of a life up to the first write of the first inverter, and behind it a new link, and read-backs of the floor
+/// up to the last moment at which that write may act, and right behind it: it stays reserved, and is freed.
+fn probed(alloc: Global, text: &str) -> Result<String, Fail> {
+    let mut life = String::new(alloc);
+    for line in text.lines() {
+        life.push_str(line)?;
+        life.push_str("\n")?;
+        if let Some((at, raw)) = granted_first(line) {
+            let last = at.saturating_add(5_000);
+            let behind = last.saturating_add(1);
+            let reserved = raw.saturating_mul(6_000);
+            let probe = format!(in alloc;
+                "link {at} 0 = linked 2
+read {last} 0 = readas 2 1
+saw {last} 0 1 100 = freed 0 {reserved}
+read {behind} 0 = readas 2 2
+saw {behind} 0 2 100 = freed 1 600000
+"
+            )?;
+            life.push_str(probe.as_str())?;
+            return Ok(life);
+        }
+    }
+    Err(Fail::from("no write"))
 }
 
 #[test]
@@ -71,8 +87,8 @@ fn a_write_that_was_cut_short(rt: HostRuntime) -> Result<(), Fail> {
     let clock = StepClock::new(0, 1);
     let mut dialers = devices(&rt, alloc, 6_000, &clock, true)?;
     let site = site_file(alloc, PLANT, &inverters(alloc, 2, 6_000)?)?;
-    let fails = (NONE, NONE);
-    let (ended, out) = run_over(alloc, "run 200", site.as_str(), fails, &mut dialers, &clock)?;
+    let given = unattended("run 200", site.as_str());
+    let (ended, out) = run_over(&rt, alloc, given, &mut dialers, &clock)?;
     assert!(rt; ended == Ended::Done);
     let log = dialers.first().ok_or("the first dialer")?.inner().log();
     let cut = log.link(0).ok_or("the link that was cut")?;
@@ -84,16 +100,16 @@ fn a_write_that_was_cut_short(rt: HostRuntime) -> Result<(), Fail> {
     let (_, again) = plain_commands::run(alloc, "replay", out.taken(), NONE, NONE)?;
     assert!(rt; again.taken() == book);
 
-    // The write stays reserved up to the second link, and until a read-back behind its window frees it.
+    // The write stays reserved as long as it may act.
     let text = std::str::from_utf8(book).ok().ok_or("text")?;
-    let probed = before_second_link(alloc, text, RESERVED)?;
+    let probed = probed(alloc, text)?;
     let (_, again) = plain_commands::run(alloc, "replay", probed.as_bytes(), NONE, NONE)?;
     assert!(rt; again.taken() == probed.as_bytes());
 
-    // The other inverter has one link to the end.
+    // The other inverter has one link to the end, with a read-back in each turn.
     let log = dialers.get(1).ok_or("the other dialer")?.inner().log();
     let other = log.link(0).ok_or("the other link")?;
-    assert!(rt; other.sent().ends_with(&OTHERS_LAST) && log.count() == 1);
+    assert!(rt; other.sent().len() > 200 * READ_BYTES && log.count() == 1);
     Ok(())
 }
 
@@ -117,15 +133,8 @@ fn a_plant_of_twelve(rt: HostRuntime) -> Result<(), Fail> {
     let clock = StepClock::new(0, 1);
     let mut dialers = devices(&rt, alloc, 50_000, &clock, false)?;
     let site = site_file(alloc, LARGE, &inverters(alloc, 12, 50_000)?)?;
-    let fails = (NONE, NONE);
-    let (ended, out) = run_over(
-        alloc,
-        "run 1000",
-        site.as_str(),
-        fails,
-        &mut dialers,
-        &clock,
-    )?;
+    let given = unattended("run 1000", site.as_str());
+    let (ended, out) = run_over(&rt, alloc, given, &mut dialers, &clock)?;
     assert!(rt; ended == Ended::Done);
     let text = std::str::from_utf8(out.taken()).ok().ok_or("text")?;
     assert!(rt; !text.contains("crowded"));

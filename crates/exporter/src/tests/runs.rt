@@ -1,11 +1,13 @@
 //! `run` with one inverter over links in memory.
-use super::links::{NONE, players, run_over};
+use super::links::{NONE, players, run_over, unattended};
 use super::sites::{INVERTER, PLANT, Plant, site_file};
 use super::{comes_to, first_lines};
 use exporter_commands::Ended;
 use std::alloc::{AllocError, Global};
 use std::process::Abort;
+use std::sync::Wait;
 use std::test::Fail;
+use std::thread::Threads;
 use world_traits::{Move, PlayLink, StepClock};
 
 /// A plant whose worker rests for longer than a write may act.
@@ -205,7 +207,7 @@ fn move_of(alloc: Global, heard: Heard) -> Result<Move, AllocError> {
 }
 
 /// That a run of two turns comes to what this case says.
-fn check(rt: &impl Abort, alloc: Global, case: Case) -> Result<(), Fail> {
+fn check<R: Abort + Threads + Wait + Sync>(rt: &R, alloc: Global, case: Case) -> Result<(), Fail> {
     let mut moves = Vec::new(alloc);
     for heard in case.heard {
         moves.push(move_of(alloc, *heard)?)?;
@@ -214,9 +216,9 @@ fn check(rt: &impl Abort, alloc: Global, case: Case) -> Result<(), Fail> {
     let links = vec![in alloc; PlayLink { takes, moves }]?;
     let mut dialers = players(alloc, links, vec![in alloc; case.fails]?)?;
     let site = site_file(alloc, SLOW, &[INVERTER])?;
-    let fails = (NONE, NONE);
     let clock = StepClock::new(0, 1);
-    let came = run_over(alloc, "run 2", site.as_str(), fails, &mut dialers, &clock)?;
+    let given = unattended("run 2", site.as_str());
+    let came = run_over(rt, alloc, given, &mut dialers, &clock)?;
     let mut text = first_lines(alloc, case.book, case.lines)?;
     text.push_str(case.behind)?;
     comes_to(rt, case.name, &came, Ended::Done, text.as_str());

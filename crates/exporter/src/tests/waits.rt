@@ -1,7 +1,7 @@
 //! How long dials wait, and how long a worker rests, which no clause says.
 ghost use Rattle.std.specs.Prelude.{◌≡◌, None};
 
-use super::links::{NONE, run_over};
+use super::links::{run_over, unattended};
 use super::sites::{INVERTER, PLANT, Plant, site_file};
 use exporter_commands::{Ended, LiveFault};
 use std::test::Fail;
@@ -70,8 +70,8 @@ fn each_dial_waits_and_each_turn_rests_as_the_site_file_says(rt: HostRuntime) ->
             wrong: 0,
         };
         let mut dialers = vec![in alloc; nobody; 64]?;
-        let fails = (NONE, NONE);
-        let (ended, _) = run_over(alloc, line, site.as_str(), fails, &mut dialers, &clock)?;
+        let given = unattended(line, site.as_str());
+        let (ended, _) = run_over(&rt, alloc, given, &mut dialers, &clock)?;
         let first = dialers.first().ok_or("a dialer")?;
         assert!(rt; ended == end && first.right == dials && first.wrong == 0);
         assert!(rt; rest.contains(&clock.now()));

@@ -79,7 +79,8 @@ pub returns-in-Some-turns_of_run-clause-run : goal.returns-in-Some-turns_of_run-
 returns-in-Some-turns_of_run-clause-run g c = λ turns asked. (
   c.run.ensures.ends.0,
   subst (λ (n : ℕ). IsRunEnd g.N.Dialer.links g.N.Dialer.faults (g.K.Clock.may_give c.args.clock.now) n c.run.ensures.ends.0
-      (change g.S.Source.left g.S.Source.faults c.args.site.now c.run.new.site) (change g.O.Sink.taken g.O.Sink.faults c.args.out.now c.run.new.out)
+      (change g.S.Source.left g.S.Source.faults c.args.site.now c.run.new.site) (change g.C.Source.left g.C.Source.faults c.args.console.now c.run.new.console)
+      (change g.O.Sink.taken g.O.Sink.faults c.args.out.now c.run.new.out)
       c.args.dialers.now.items c.run.new.dialers.items c.run.result)
       (one_run (map string_bytes c.args.words.now.items) c.in-Some-turns_of_run.turns turns c.in-Some-turns_of_run.ensures.some asked) c.run.ensures.ends.1,
 )
