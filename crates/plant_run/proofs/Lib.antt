@@ -18,6 +18,7 @@ pub mod Receiving
 pub mod Requesting
 pub mod Numbered
 pub mod Agreeing
+pub mod Leaving
 pub mod Halves
 pub mod Few
 pub mod Passing

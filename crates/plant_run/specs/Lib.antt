@@ -7,3 +7,4 @@ pub mod Requests
 pub mod Agreement
 pub mod Operator
 pub mod Forked
+pub mod Left

@@ -13,7 +13,7 @@ mod plain;
 mod turns;
 
 pub use forked::{RunEnd, run_forked};
-pub use laws::{links_agree, runs_agree};
+pub use laws::{links_agree, runs_agree, writes_outlive_their_worker};
 pub use plain::run_plain;
 pub use turns::run_out;
 

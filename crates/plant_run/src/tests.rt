@@ -15,6 +15,8 @@ use world_traits::{
     StepClock,
 };
 
+mod forked;
+
 /// What a life came to: its entries, the workers' ends, and what the first one sent.
 #[derive(Drop)]
 struct Ran {
