@@ -353,3 +353,59 @@ fn the_dial_is_told_how_long_to_wait(rt: HostRuntime) -> Result<(), Fail> {
     assert_eq!(rt; (dialer.wait, dialer.faults), (2_000, 1));
     Ok(())
 }
+
+/// A dialer over another, which hands on five bytes of a piece at most.
+#[derive(Drop)]
+struct Sipping<N> {
+    below: N,
+}
+
+impl<N: Dialer> Dialer for Sipping<N> {
+    ghost links = { λ s. N.links s.below };
+
+    ghost faults = { λ s. N.faults s.below };
+
+    fn dial(&mut self, host: &str, port: u16, wait: u32) -> Result<(), DialFailed> {
+        self.below.dial(host, port, wait)
+    }
+
+    fn send(&mut self, bytes: &[u8]) -> Result<usize, SendFailed> {
+        self.below.send(&bytes[..bytes.len().min(5)])
+    }
+
+    fn recv(&mut self, into: &mut [u8]) -> Result<Received, RecvFailed> {
+        self.below.recv(into)
+    }
+
+    fn hang_up(&mut self) {
+        self.below.hang_up();
+    }
+}
+
+#[test]
+fn nothing_is_sent_on_a_link_after_a_failed_send(rt: HostRuntime) -> Result<(), Fail> {
+    let alloc = rt.alloc();
+    // The first request goes out in the calls 1 to 3, and the second in the calls 5 to 7.
+    let cases = [(2, 5, 0), (3, 10, 0), (6, 17, 1), (7, 22, 1)];
+    for (failing, sent, receives) in cases {
+        let moves = replies(alloc, 11)?;
+        let link = PlayLink {
+            takes: 1_000,
+            moves,
+        };
+        let failing = vec![in alloc; failing]?;
+        let mut dialer = Sipping {
+            below: PlayDialer::new(alloc, vec![in alloc; link]?, failing),
+        };
+        let mut out = BytesSink::new(alloc, Vec::new(alloc));
+        assert_eq!(rt;
+            commissioned(6000, &mut dialer, &mut out)?,
+            refused(Refusal::Send)
+        );
+        let log = dialer.below.log();
+        let link = log.link(0).ok_or("a link")?;
+        assert!(rt; log.count() == 1 && !log.is_up());
+        assert_eq!(rt; (link.sent().len(), link.answers()), (sent, receives));
+    }
+    Ok(())
+}

@@ -10,7 +10,10 @@ use plant_book::{Policy, Port, Read, Site, Unit, Write};
 use plant_ledger::Plant;
 use std::alloc::{AllocError, Global};
 use std::test::Fail;
-use world_traits::{Move, PlayDialer, PlayLink, StepClock, Watch};
+use world_traits::{
+    DialFailed, Dialer, Move, PlayDialer, PlayLink, Received, RecvFailed, SendFailed, StepClock,
+    Watch,
+};
 
 fn sent<T: Send>(_value: &T) {}
 
@@ -88,10 +91,10 @@ fn wrote_twice(alloc: Global) -> Result<Move, AllocError> {
 }
 
 /// One turn with the inverter of number 0.
-fn one_turn(
+fn one_turn<N: Dialer>(
     worker: &mut Worker,
     desk: &mut PlainDesk,
-    dialer: &mut PlayDialer,
+    dialer: &mut N,
     clock: &StepClock,
 ) -> Turned
     requires desk { 0 < inverters desk.old.book.site }
@@ -185,5 +188,81 @@ fn a_second_reply_to_a_write_is_passed_over(rt: HostRuntime) -> Result<(), Fail>
         read_at(3, 70_009, 70_010),
     ];
     assert_eq!(rt; worker.log(), log.as_slice());
+    Ok(())
+}
+
+/// A dialer over another, which hands on five bytes of a piece at most.
+#[derive(Drop)]
+struct Sipping<N> {
+    below: N,
+}
+
+impl<N: Dialer> Dialer for Sipping<N> {
+    ghost links = { λ s. N.links s.below };
+
+    ghost faults = { λ s. N.faults s.below };
+
+    fn dial(&mut self, host: &str, port: u16, wait: u32) -> Result<(), DialFailed> {
+        self.below.dial(host, port, wait)
+    }
+
+    fn send(&mut self, bytes: &[u8]) -> Result<usize, SendFailed> {
+        self.below.send(&bytes[..bytes.len().min(5)])
+    }
+
+    fn recv(&mut self, into: &mut [u8]) -> Result<Received, RecvFailed> {
+        self.below.recv(into)
+    }
+
+    fn hang_up(&mut self) {
+        self.below.hang_up();
+    }
+}
+
+/// A dialer of three links that take five bytes a send and answer nothing, where these calls fail.
+fn three_sipping(alloc: Global, failing: Vec<u32>) -> Result<Sipping<PlayDialer>, AllocError> {
+    let mut links = Vec::new(alloc);
+    for _ in 0..3 {
+        links.push(PlayLink {
+            takes: 1_000,
+            moves: Vec::new(alloc),
+        })?;
+    }
+    Ok(Sipping {
+        below: PlayDialer::new(alloc, links, failing),
+    })
+}
+
+/// How many links a dialer made, the bytes sent on the last, and how many receives were answered there. Nothing while
+/// it is up.
+fn last_link(dialer: &PlayDialer) -> Option<(usize, &[u8], usize)> {
+    let log = dialer.log();
+    if log.is_up() {
+        return None;
+    }
+    let link = log.link(log.count().checked_sub(1)?)?;
+    Some((log.count(), link.sent(), link.answers()))
+}
+
+#[test]
+fn nothing_is_sent_on_a_link_after_a_failed_send(rt: HostRuntime) -> Result<(), Fail> {
+    let alloc = rt.alloc();
+    // The first turn's read fails at its second send, and the second turn's write at its third.
+    let mut dialer = three_sipping(alloc, vec![in alloc; 2, 6]?)?;
+    let mut worker = worker(alloc, 3, 70_000)?;
+    let mut desk = desk(alloc)?;
+    let clock = StepClock::new(1, 1);
+    let write = [
+        0, 1, 0, 0, 0, 19, 1, 16, 0x9D, 0x76, 0, 6, 12, 0, 1, 3, 0xE8, 0, 100, 0, 1, 0, 0, 0, 60,
+    ];
+    let rows: [(usize, &[u8], usize); 3] = [
+        (1, &[0, 1, 0, 0, 0], 0),
+        (2, &write[..10], 0),
+        (3, &write, 1),
+    ];
+    for row in rows {
+        one_turn(&mut worker, &mut desk, &mut dialer, &clock);
+        assert_eq!(rt; last_link(&dialer.below), Some(row));
+    }
     Ok(())
 }
