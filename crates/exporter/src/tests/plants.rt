@@ -39,46 +39,48 @@ fn is_cut(link: &Link) -> bool {
     link.sent().len() % READ_BYTES == 7 && link.sent().ends_with(&CUT_END)
 }
 
-/// When a write of the first inverter was granted, in ms, and its raw percentage, by the line of its ask.
-fn granted_first(line: &str) -> Option<(u64, u64)> {
-    let rest = line.strip_prefix("ask ")?;
-    let (call, reply) = rest.split_once(" = ")?;
-    if !reply.starts_with("granted ") {
-        return None;
-    }
-    let mut words = call.split(' ');
-    let at = words.next()?.parse::<u64>().ok()?;
-    if words.next() != Some("0") {
-        return None;
-    }
-    let raw = words.next()?.parse::<u64>().ok()?;
-    Some((at, raw))
+/// Whether a line of a book is an ask of the first inverter that was granted.
+fn is_granted(line: &str) -> bool {
+    line.starts_with("ask ") && line.split(' ').nth(2) == Some("0") && line.contains("= granted ")
 }
 
-/// The text of a life up to the first write of the first inverter, and behind it a new link, and read-backs of the floor
-/// up to the last moment at which that write may act, and right behind it: it stays reserved, and is freed.
-fn probed(alloc: Global, text: &str) -> Result<String, Fail> {
-    let mut life = String::new(alloc);
-    for line in text.lines() {
-        life.push_str(line)?;
-        life.push_str("\n")?;
-        if let Some((at, raw)) = granted_first(line) {
-            let last = at.saturating_add(5_000);
-            let behind = last.saturating_add(1);
-            let reserved = raw.saturating_mul(6_000);
-            let probe = format!(in alloc;
-                "link {at} 0 = linked 2
+/// The number that is the word of a line at this place, from 0.
+fn number_at(line: &str, place: usize) -> Option<u64> {
+    line.split(' ').nth(place)?.parse::<u64>().ok()
+}
+
+/// Behind the granted ask of this line a new link, and read-backs of the floor up to the last moment at which that write
+/// may act, and right behind it: it stays reserved, and is freed.
+fn probe(alloc: Global, line: &str) -> Result<String, Fail> {
+    let at = number_at(line, 1).ok_or("the moment")?;
+    let raw = number_at(line, 3).ok_or("the raw percentage")?;
+    let last = at.saturating_add(5_000);
+    let behind = last.saturating_add(1);
+    let reserved = raw.saturating_mul(6_000);
+    let probe = format!(in alloc;
+        "link {at} 0 = linked 2
 read {last} 0 = readas 2 1
 saw {last} 0 1 100 = freed 0 {reserved}
 read {behind} 0 = readas 2 2
 saw {behind} 0 2 100 = freed 1 600000
 "
-            )?;
-            life.push_str(probe.as_str())?;
-            return Ok(life);
-        }
+    )?;
+    Ok(probe)
+}
+
+/// The text of a life up to the first write of the first inverter, and the probe behind it.
+fn probed(alloc: Global, text: &str) -> Result<String, Fail> {
+    let granted = text.lines().find(|line| is_granted(line)).ok_or("a write")?;
+    let mut life = String::new(alloc);
+    for line in text.lines().take_while(|line| !is_granted(line)) {
+        life.push_str(line)?;
+        life.push_str("\n")?;
     }
-    Err(Fail::from("no write"))
+    let probe = probe(alloc, granted)?;
+    life.push_str(granted)?;
+    life.push_str("\n")?;
+    life.push_str(probe.as_str())?;
+    Ok(life)
 }
 
 #[test]
