@@ -9,7 +9,8 @@ use Rattle.plant_book.specs.Book.{BookRecord}
 use Rattle.plant_book.specs.Calls as parts
 use Rattle.plant_book.specs.Answer.{reply_to}
 use Rattle.plant_book.specs.Lifetime.{LiveOn, ChangesNothing}
-use Rattle.plant_book.specs.Covered.{TellsCap}
+use Rattle.plant_book.specs.Covered.{TellsCap, CoversHeld, IsUnderCeiling, IsBackUnderCap}
+use Rattle.plant_book.specs.Tight.{IsTight}
 use Rattle.plant_book.specs.History.{IsPast, life_after}
 use Rattle.plant_book.specs.Safe.{IsSafeAlways}
 use Rattle.plant_book.specs.Part.{PartRecord, begin_of, calls_carried, calls_of, book_behind}
@@ -48,6 +49,19 @@ right_reply book call = reply_to book (parts.entered book.start book.entries cal
 abbrev pub IsSafeLife : BookRecord → Type 0
 IsSafeLife book = (past : List writes.Write) → IsPast book.site book.start past
     → IsSafeAlways (life_after past book)
+
+-- What is true of each life that a plant's book goes on with.
+pub record IsSound (book : BookRecord) : Type 0 where
+  -- What is reserved in all stays under the ceiling: the site's cap through the silence, and within reach of a
+  -- lowering what was reserved right after it. Past that it is back under the cap.
+  pub capped : IsUnderCeiling book
+  pub back : IsBackUnderCap book
+  -- Behind the silence, and in the first life of a plant, what an inverter may hold is reserved for it.
+  pub covered : CoversHeld book
+  -- Whatever past that fits the life followed, and whatever inverters did that follow the timed device.
+  pub safe : IsSafeLife book
+  -- No ledger that knows only the calls could free a write sooner.
+  pub tight : IsTight book
 
 -- what an entry leaves of the reservations
 pub record LeavesReservations (old : BookRecord) (entry : Entry) (new : BookRecord) : Type 0 where

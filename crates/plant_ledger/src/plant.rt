@@ -6,14 +6,12 @@ ghost use Rattle.plant_book.specs.Answer.{goal_raw, is_stopped};
 ghost use Rattle.plant_book.specs.Reserved as sums;
 ghost use Rattle.plant_book.specs.Caps.{cap_of};
 ghost use Rattle.plant_book.specs.Ceiling.{ceiling};
-ghost use Rattle.plant_book.specs.Covered.{CoversHeld, IsUnderCeiling, IsBackUnderCap};
 ghost use Rattle.plant_book.specs.Answered.{IsInRange};
 ghost use Rattle.plant_book.specs.Part.{last_moment_of, calls_of};
 ghost use Rattle.plant_book.specs.Carry.{EachBefore, EachBook};
-ghost use Rattle.plant_book.specs.Tight.{IsTight};
 ghost use Rattle.plant_ledger.specs.Opening.{open_fault, ticket_for};
 ghost use Rattle.plant_ledger.specs.Release.{back_of};
-ghost use Rattle.plant_ledger.specs.Plant.{IsKept, entered, IsSafeLife, GoesOn, Rolls, IsFullLife};
+ghost use Rattle.plant_ledger.specs.Plant.{IsKept, IsSound, entered, GoesOn, Rolls, IsFullLife};
 
 mod readings;
 
@@ -81,11 +79,7 @@ impl Plant {
         ensures kept { IfOk result (λ plant. IsKept plant) }
 
         // Of the life that the book begins.
-        ensures capped { IfOk result (λ plant. EachBook plant IsUnderCeiling) }
-        ensures back { IfOk result (λ plant. EachBook plant IsBackUnderCap) }
-        ensures covered { IfOk result (λ plant. EachBook plant CoversHeld) }
-        ensures safe { IfOk result (λ plant. EachBook plant IsSafeLife) }
-        ensures tight { IfOk result (λ plant. EachBook plant IsTight) }
+        ensures sound { IfOk result (λ plant. EachBook plant IsSound) }
 
         // Refused by the first cause, and for want of memory only where no cause stands.
         ensures refused { IfErr result (λ fault. open_fault site ≡ Some fault
@@ -119,20 +113,10 @@ impl Plant {
         ensures full { IfErr result (λ full. (full.calls ≡ length self.old.entries)
             × (full.calls ≡ self.old.site.room) × (self.new ≡ self.old)) }
 
-        // Of each life whose last book is the new one: what is reserved in all stays under the ceiling, the
-        // site's cap through the silence, and within reach of a lowering what was reserved right after it.
-        // Past that it is back under the cap.
+        // Of each life whose last book is the new one: its watts stay under the ceiling, what is held is covered by
+        // what is reserved, and it is safe at every moment.
         ensures kept { IsKept self.new }
-        ensures capped { EachBook self.new IsUnderCeiling }
-        ensures back { EachBook self.new IsBackUnderCap }
-
-        // Behind the silence, and in the first life of a plant, what an inverter may hold is reserved for it.
-        ensures covered { EachBook self.new CoversHeld }
-
-        // Whatever past that fits the life followed, and whatever inverters did that follow the timed device.
-        // And no ledger that knows only the calls could free a write sooner.
-        ensures safe { EachBook self.new IsSafeLife }
-        ensures tight { EachBook self.new IsTight }
+        ensures sound { EachBook self.new IsSound }
     {
         let calls = self.calls();
         if calls >= self.site().room {
@@ -157,11 +141,7 @@ impl Plant {
         ensures full { IfErr result (λ refused. (refused.0.calls ≡ length self.old.entries)
             × (refused.0.calls ≡ self.old.site.room) × (refused.1 ≡ ticket) × (self.new ≡ self.old)) }
         ensures kept { IsKept self.new }
-        ensures capped { EachBook self.new IsUnderCeiling }
-        ensures back { EachBook self.new IsBackUnderCap }
-        ensures covered { EachBook self.new CoversHeld }
-        ensures safe { EachBook self.new IsSafeLife }
-        ensures tight { EachBook self.new IsTight }
+        ensures sound { EachBook self.new IsSound }
     {
         let calls = self.calls();
         if calls >= self.site().room {
@@ -197,11 +177,7 @@ impl Plant {
             ⊎ ((¬ IsFullLife self.old) × (fault ≡ RollFault.NoMemory))) }
         ensures unchanged { OnErr result (self.new ≡ self.old) }
         ensures kept { IsKept self.new }
-        ensures capped { EachBook self.new IsUnderCeiling }
-        ensures back { EachBook self.new IsBackUnderCap }
-        ensures covered { EachBook self.new CoversHeld }
-        ensures safe { EachBook self.new IsSafeLife }
-        ensures tight { EachBook self.new IsTight }
+        ensures sound { EachBook self.new IsSound }
     {
         self.ledger.roll(alloc)
     }

@@ -13,7 +13,9 @@ mod judging;
 mod laws;
 mod line;
 mod lines;
-mod number;
+/// What a row is made of: texts, numbers behind a space, and its end. Other inputs in the grammar of scripts read their
+/// rows by these.
+pub mod number;
 mod pen;
 mod reading;
 mod rows;

@@ -11,7 +11,7 @@ const SIZE_MAX: u64 = 65_536;
 /// Below it a number surely has room for one more digit.
 const SHORT_END: u64 = 1_000_000_000_000_000_000;
 
-/// The bytes behind a text at the front.
+/// The bytes behind a text at the front, or none where it doesn't stand there.
 #[inline(always)]
 pub fn after<'a>(bytes: &'a [u8], text: &[u8]) -> Option<&'a [u8]>
     ensures { option_copied result ≡ rest_after text.now bytes.now }
@@ -46,7 +46,7 @@ fn remark(bytes: &[u8]) -> Option<&[u8]>
     None
 }
 
-/// The bytes behind the row, where nothing is left of it that is read.
+/// The bytes behind the row and its end, LF or CR LF, where nothing is left of it but spaces and a remark from `=` on.
 #[inline(always)]
 pub fn end(bytes: &[u8]) -> Option<&[u8]>
     ensures { option_copied result ≡ end_at bytes.now }
@@ -101,7 +101,7 @@ fn number(bytes: &[u8]) -> Option<(u64, &[u8])>
     }
 }
 
-/// The number behind a space, and the bytes behind it.
+/// The number behind a space, and the bytes behind it. A number above 2^64 - 1 is read as that.
 #[tactic(auto, unfolding(crate::specs::Reading::next_at))]
 #[inline(always)]
 pub fn next(bytes: &[u8]) -> Option<(u64, &[u8])>
@@ -141,7 +141,7 @@ fn positive(bytes: &[u8]) -> Option<(i32, &[u8])>
 
 /// The number behind a space, perhaps with a minus sign, and the bytes behind it.
 #[tactic(auto, unfolding(crate::specs::Reading::signed_at))]
-pub fn signed(bytes: &[u8]) -> Option<(i32, &[u8])>
+pub(crate) fn signed(bytes: &[u8]) -> Option<(i32, &[u8])>
     ensures { Gives result (signed_at number_most size_most bytes.now) }
 {
     if let Some(rest) = after(bytes, b" -") {
@@ -152,7 +152,7 @@ pub fn signed(bytes: &[u8]) -> Option<(i32, &[u8])>
 
 /// The policy behind a space, and the bytes behind it.
 #[tactic(auto, unfolding(crate::specs::Reading::policy_at))]
-pub fn policy(bytes: &[u8]) -> Option<(Policy, &[u8])>
+pub(crate) fn policy(bytes: &[u8]) -> Option<(Policy, &[u8])>
     ensures { Gives result (policy_at bytes.now) }
 {
     if let Some(rest) = after(bytes, b" open") {

@@ -1,32 +1,8 @@
-use Rattle.plant_ledger.proofs.Kept.{kept_capped, kept_back, kept_covered, kept_safe, kept_tight}
+use Rattle.plant_ledger.proofs.Kept.{kept_sound}
 use Rattle.plant_ledger.proofs.plant.Plant.apply.Goals as goal
 
-pub returns-then-calls-site-clause-capped : goal.returns-then-calls-site-clause-capped
-returns-then-calls-site-clause-capped c = kept_capped _
+pub returns-then-calls-site-clause-sound : goal.returns-then-calls-site-clause-sound
+returns-then-calls-site-clause-sound c = kept_sound _
 
-pub returns-then-calls-site-clause-back : goal.returns-then-calls-site-clause-back
-returns-then-calls-site-clause-back c = kept_back _
-
-pub returns-then-calls-site-clause-covered : goal.returns-then-calls-site-clause-covered
-returns-then-calls-site-clause-covered c = kept_covered _
-
-pub returns-then-calls-site-clause-safe : goal.returns-then-calls-site-clause-safe
-returns-then-calls-site-clause-safe c = kept_safe _
-
-pub returns-then-calls-site-clause-tight : goal.returns-then-calls-site-clause-tight
-returns-then-calls-site-clause-tight c = kept_tight _
-
-pub returns-clause-capped : goal.returns-clause-capped
-returns-clause-capped c = kept_capped _
-
-pub returns-clause-back : goal.returns-clause-back
-returns-clause-back c = kept_back _
-
-pub returns-clause-covered : goal.returns-clause-covered
-returns-clause-covered c = kept_covered _
-
-pub returns-clause-safe : goal.returns-clause-safe
-returns-clause-safe c = kept_safe _
-
-pub returns-clause-tight : goal.returns-clause-tight
-returns-clause-tight c = kept_tight _
+pub returns-clause-sound : goal.returns-clause-sound
+returns-clause-sound c = kept_sound _

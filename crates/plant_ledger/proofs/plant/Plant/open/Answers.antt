@@ -5,7 +5,7 @@ use Rattle.plant_book.specs.Answered.{IsOpenable}
 use Rattle.plant_book.specs.Calls.{latest}
 use Rattle.plant_book.proofs.Growth.{IsBook-empty}
 use Rattle.plant_ledger.specs.Ledger.{LedgerRecord, IsAtLast}
-use Rattle.plant_ledger.proofs.Kept.{kept_capped, kept_back, kept_covered, kept_safe, kept_tight}
+use Rattle.plant_ledger.proofs.Kept.{kept_sound}
 use Rattle.plant_ledger.proofs.plant.Plant.open.Goals as goal
 
 -- the ledger of a life without calls
@@ -24,17 +24,5 @@ at_start site start ledger openable low is = subst IsAtLast (sym is) (record {
 pub invariant_of-result : goal.invariant_of-result
 invariant_of-result c = at_start c.args.site c.args.start c.in-Ok.ledger c.in_ok-refuse.ensures.openable c.requires.start c.in-Ok.ensures
 
-pub returns-clause-capped : goal.returns-clause-capped
-returns-clause-capped c = kept_capped _
-
-pub returns-clause-back : goal.returns-clause-back
-returns-clause-back c = kept_back _
-
-pub returns-clause-covered : goal.returns-clause-covered
-returns-clause-covered c = kept_covered _
-
-pub returns-clause-safe : goal.returns-clause-safe
-returns-clause-safe c = kept_safe _
-
-pub returns-clause-tight : goal.returns-clause-tight
-returns-clause-tight c = kept_tight _
+pub returns-clause-sound : goal.returns-clause-sound
+returns-clause-sound c = kept_sound _
