@@ -15,6 +15,3 @@ pub use job::Job;
 pub use laws::replies_commission;
 pub use run::commission;
 pub use stop::{Refusal, Stop};
-
-#[cfg(test)]
-mod tests;

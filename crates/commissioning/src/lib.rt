@@ -17,6 +17,3 @@ pub use commission::{Commission, Took};
 pub use fault::CommissionFault;
 pub use found::Record702;
 pub use laws::{one_frame_more, replies_lead_there, requests_are_numbered, what_has_passed};
-
-#[cfg(test)]
-mod tests;

@@ -20,6 +20,3 @@ pub use lengths::{HEADER, least_block, least_length};
 pub use limit::{LimitView, limit_block, limit_view};
 pub use measured::Measure;
 pub use models::{capacity, enter_service, measure, pct_sf};
-
-#[cfg(test)]
-mod tests;

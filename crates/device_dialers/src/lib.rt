@@ -12,6 +12,3 @@ mod replies;
 pub use cut_dialer::{CutDialer, Handing};
 pub use device_dialer::DeviceDialer;
 pub use hearing::Standing;
-
-#[cfg(test)]
-mod tests;

@@ -131,6 +131,3 @@ impl<T: Default + Clone, const CAP: usize> Clone for FixedList<T, CAP> {
         })
     }
 }
-
-#[cfg(test)]
-mod tests;

@@ -7,6 +7,3 @@
 mod inbox;
 
 pub use inbox::{Inbox, NoFrame};
-
-#[cfg(test)]
-mod tests;

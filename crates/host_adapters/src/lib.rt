@@ -18,6 +18,3 @@ pub use listening::{AcceptWithin, Listening};
 pub use opened::Opened;
 pub use streams::{Input, Output};
 pub use tcp::{Opener, TcpDialer};
-
-#[cfg(test)]
-mod tests;

@@ -13,6 +13,3 @@ mod visit;
 pub use device::{Device, answer};
 pub use serving::serve;
 pub use steady_clock::SteadyClock;
-
-#[cfg(test)]
-mod tests;

@@ -17,6 +17,3 @@ pub use laws::{
     banks_follow_the_timed_device, limits_are_taken_and_shown, limits_follow_the_timed_device,
     takes_are_held,
 };
-
-#[cfg(test)]
-mod tests;

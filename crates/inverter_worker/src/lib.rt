@@ -22,7 +22,4 @@ pub use job::Job;
 pub use laws::{answers_have_rows, requests_are_sent_or_given_back, runs_go_on, turns_are_short};
 pub use output::{Asked, Output, Sent};
 pub use state::{End, SKIPPED_MAX, State, Step};
-pub use table::worker_step;
-
-#[cfg(test)]
-mod tests;
+pub use table::{Row, row_of, worker_step};

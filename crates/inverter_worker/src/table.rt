@@ -15,7 +15,7 @@ use crate::state::{SKIPPED_MAX, State, Step};
 use crate::writing::{asking, release_timing, sending, timing, wait_write, window};
 
 /// What the table has for a state and an input.
-pub(crate) type Row = Option<(State, Output)>;
+pub type Row = Option<(State, Output)>;
 
 /// What a worker does in this state on this input, for which the table has a row: its next state, and its
 /// output.
@@ -30,7 +30,8 @@ pub fn worker_step(job: &Job, state: State, input: Input) -> (State, Output)
     }
 }
 
-pub(crate) fn row_of(job: &Job, state: State, input: &Input) -> Row
+/// The row of the table for this state and this input, the next state with the output, or None where it has none.
+pub fn row_of(job: &Job, state: State, input: &Input) -> Row
     requires { job.now.port.base ≤ 65514 }
     ensures { result ≡ table job.now state input.now }
 {

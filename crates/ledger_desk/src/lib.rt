@@ -10,6 +10,3 @@ mod plain_desk;
 
 pub use desk::Desk;
 pub use plain_desk::PlainDesk;
-
-#[cfg(test)]
-mod tests;

@@ -129,24 +129,3 @@ impl Rules {
         u64::from(self.send) + u64::from(self.delay) + self.tmax()
     }
 }
-
-#[cfg(test)]
-mod tests {
-    use super::*;
-
-    #[test]
-    fn a_timer_of_a_minute_ends_within_its_tolerance(rt: HostRuntime) {
-        let rules = Rules::new(1_000, 4_000, 60, 20, 500);
-        assert!(rt; rules.is_ok());
-        if let Ok(rules) = rules {
-            assert_eq!(rt; rules.tmin(), 58_300);
-            assert_eq!(rt; rules.tmax(), 61_700);
-            assert_eq!(rt; rules.reach(), 66_700);
-        }
-        let out = RulesOut {
-            field: RulesField::Timer,
-            value: 0,
-        };
-        assert_eq!(rt; Rules::new(1, 0, 0, 501, 0), Err(out));
-    }
-}

@@ -13,6 +13,3 @@ pub use frames::{Fed, Frames, Got};
 pub use laws::{
     calls_find_the_fault, calls_read_the_stream, known_frames_are_first, one_reading_a_stream,
 };
-
-#[cfg(test)]
-mod tests;

@@ -15,6 +15,3 @@ pub use pdu::{
     EXCEPTION_BIT, MAX_PDU, MAX_READ, MAX_REGISTERS, MAX_WRITE, Pdu, READ_REGISTERS, Regs, Reply,
     Request, WRITE_REGISTERS,
 };
-
-#[cfg(test)]
-mod tests;

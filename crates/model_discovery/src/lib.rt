@@ -17,6 +17,3 @@ pub use found::Found;
 pub use laws::{each_chain, one_outcome};
 pub use walk::{Next, Walk};
 pub use whole_walk::{RegisterMap, discover};
-
-#[cfg(test)]
-mod tests;

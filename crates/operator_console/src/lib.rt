@@ -11,10 +11,7 @@ mod order;
 mod orders;
 mod rolled;
 mod session;
-mod status;
-#[cfg(test)]
-mod tests;
-mod writing;
+mod status;mod writing;
 
 pub use order::{Order, order_of};
 pub use session::{CONSOLE_BYTES_MAX, ConsoleEnd, console};

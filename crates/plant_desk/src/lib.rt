@@ -21,6 +21,3 @@ pub use desk::PlantDesk;
 pub use desk_of::DeskOf;
 pub use laws::{entries_are_told_apart, what_passes_made_stands};
 pub use pass::Pass;
-
-#[cfg(test)]
-mod tests;

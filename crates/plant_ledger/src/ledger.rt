@@ -237,12 +237,6 @@ impl Ledger {
         &self.accounts[usize::from(inverter)]
     }
 
-    /// How many writes the queue of last moments has.
-    #[cfg(test)]
-    pub(crate) fn queued(&self) -> usize {
-        self.expiries.len()
-    }
-
     /// Whether a Stop stands in the book.
     pub fn is_stopped(&self) -> bool
         ensures { EachBook self.now.book (λ whole. result ≡ is_stopped whole) }

@@ -25,6 +25,3 @@ pub use opening::OpenFault;
 pub use plant::{BookFull, Goal, Outcome, Plant};
 pub use rolling::RollFault;
 pub use ticket::Ticket;
-
-#[cfg(test)]
-mod tests;

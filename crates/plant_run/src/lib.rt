@@ -16,6 +16,3 @@ pub use forked::{RunEnd, run_forked};
 pub use laws::{links_agree, runs_agree, writes_outlive_their_worker};
 pub use plain::run_plain;
 pub use turns::run_out;
-
-#[cfg(test)]
-mod tests;

@@ -13,6 +13,3 @@ pub use inverter::{OldWrite, Request};
 pub use laws::{inverters_follow_the_device, numbers_are_those_of_the_site, peaks_are_greatest};
 pub use summary::{Summary, simulate};
 pub use text::summary_text;
-
-#[cfg(test)]
-mod tests;

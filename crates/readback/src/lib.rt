@@ -13,6 +13,3 @@ pub use frames::{
 };
 pub use judging::{Judged, judge, judge_reply, reply_of};
 pub use laws::{replies_by_the_grammar, what_was_written_is_shown};
-
-#[cfg(test)]
-mod tests;

@@ -8,6 +8,3 @@
 mod lives;
 
 pub use lives::{Lives, RestartFault};
-
-#[cfg(test)]
-mod tests;

@@ -12,6 +12,3 @@ mod moments;
 pub use expiries::{Due, EXPIRIES_MAX, Expiries};
 pub use laws::entries_that_are_left;
 pub use moments::{last_act, last_moment};
-
-#[cfg(test)]
-mod tests;

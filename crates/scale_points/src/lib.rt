@@ -12,6 +12,3 @@ mod strings;
 pub use laws::text_limits;
 pub use numbers::{double_word, enum16, int16, sunssf, uint16, uint32};
 pub use strings::{TEXT_BYTES, TEXT_REGISTERS, text};
-
-#[cfg(test)]
-mod tests;

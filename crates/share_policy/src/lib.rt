@@ -13,6 +13,3 @@ mod shares;
 pub use claim::{Claim, Policy};
 pub use laws::level_depends_on_claims_alone;
 pub use shares::{level, reaches, target, total_at};
-
-#[cfg(test)]
-mod tests;

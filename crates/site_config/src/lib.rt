@@ -20,6 +20,3 @@ pub use key::Key;
 pub use laws::one_meaning;
 pub use site_file::{SITE_BYTES_MAX, SiteFile, site_of, site_of_table};
 pub use summary::summary_text;
-
-#[cfg(test)]
-mod tests;

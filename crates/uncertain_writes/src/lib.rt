@@ -13,6 +13,3 @@ mod rising;
 pub use laws::{lists_follow_the_book, the_greatest_is_reserved};
 pub use live::Live;
 pub use plant_book::{LIVE_MAX, Read, Write};
-
-#[cfg(test)]
-mod tests;

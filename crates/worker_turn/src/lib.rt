@@ -18,6 +18,3 @@ pub use laws::{
     turns_are_runs, waits_end_as_answered,
 };
 pub use worker::{Turned, Worker};
-
-#[cfg(test)]
-mod tests;

@@ -36,6 +36,3 @@ pub use sink::{Sink, WriteFailed};
 pub use source::{ReadFailed, Source};
 pub use step_clock::StepClock;
 pub use watch::Watch;
-
-#[cfg(test)]
-mod tests;

@@ -106,19 +106,12 @@ impl Plant {
         self.ledger.site()
     }
 
-    /// The book, for the plain slow program.
-    #[cfg(test)]
-    pub(crate) fn book(&self) -> &Book
+    /// The book, with its site, its start, its carry and its entries.
+    pub fn book(&self) -> &Book
         ensures book { result.now ≡ self.now }
         ensures kept { IsKept self.now }
     {
         self.ledger.book()
-    }
-
-    /// How many writes the queue of last moments has.
-    #[cfg(test)]
-    pub(crate) fn queued(&self) -> usize {
-        self.ledger.queued()
     }
 
     /// The moment at which the life begins, in ms.

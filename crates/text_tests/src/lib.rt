@@ -1,0 +1,7 @@
+//! Tests of the layer of the texts.
+#![tactic(auto)]
+
+#[cfg(test)]
+mod scripts;
+#[cfg(test)]
+mod sites;
