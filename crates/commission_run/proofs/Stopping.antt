@@ -26,7 +26,7 @@ use Rattle.commission_run.specs.Course.{answered}
 use Rattle.commission_run.specs.Ends.{Outcome, IsSent, IsCause, IsWritten, last_answer, IsCourse}
 use Rattle.frame_inbox.specs.declared.inbox.NoFrame.{NoFrame}
 use Rattle.frame_inbox.specs.declared.inbox.NoFrame.TheVariants as none
-use Rattle.frame_inbox.specs.Waiting.{Arrives}
+use Rattle.frame_inbox.specs.Waiting.{IsAdvance}
 use Rattle.commission_run.specs.Arriving.{CutsShort, IsHandled, StopsWait, gained_text, refusal_of}
 use Rattle.commission_run.specs.Going.{IsGoing}
 use Rattle.commission_run.proofs.Linked.{IsUp, IsOver as IsLinkOver, up_at_first, up_sends, up_receives, up_fails, up_ends}
@@ -72,28 +72,28 @@ no_last : (target : Target) (standing : Standing) (held : List ℕ) (frames : Li
 no_last target standing held frames link going = (going.pieces, going.answers ∙ sym (append-nil (map Bytes going.pieces)))
 
 -- no frame came where the next was to be
-pub stopped_by_arrival : (why : NoFrame) (target : Target) (inverter : ℕ) (standing : Standing) (held after : List ℕ) (frames : List Frame) (link : Link) (told now next : Option Links) (old new : Option (List ℕ))
+pub stopped_by_advance : (why : NoFrame) (target : Target) (inverter : ℕ) (standing : Standing) (held after : List ℕ) (frames : List Frame) (link : Link) (told now next : Option Links) (old new : Option (List ℕ))
     → IsGoing target standing held frames link → IsUp link told now → IsSome (asked standing) → Appends old new (found_text (found_at standing.stage))
-    → Arrives (Err why) held after now next → Ended target inverter (Err (Refused (refusal_of why))) told next old new
-stopped_by_arrival none.Quiet target inverter standing held after frames link told now next old new going up asks wrote (unfinished, is, stay) = (
+    → IsAdvance (Err why) held after now next → Ended target inverter (Err (Refused (refusal_of why))) told next old new
+stopped_by_advance none.Quiet target inverter standing held after frames link told now next old new going up asks wrote (unfinished, is, stay) = (
   frames,
   link_with_receipt Quiet link,
   up_ends told next (link_with_receipt Quiet link) (up_receives told now next link Quiet up is),
   silent target inverter (Refused by.Quiet) Quiet standing held frames link old new refl refl (λ e. e) (λ e. e) (λ e. e) going asks unfinished wrote,
 )
-stopped_by_arrival none.Closed target inverter standing held after frames link told now next old new going up asks wrote (unfinished, is, stay) = (
+stopped_by_advance none.Closed target inverter standing held after frames link told now next old new going up asks wrote (unfinished, is, stay) = (
   frames,
   link_with_receipt Closed link,
   up_ends told next (link_with_receipt Closed link) (up_receives told now next link Closed up is),
   silent target inverter (Refused by.Closed) Closed standing held frames link old new refl refl (λ e. e) (λ e. e) (λ e. e) going asks unfinished wrote,
 )
-stopped_by_arrival none.RecvFailed target inverter standing held after frames link told now next old new going up asks wrote (unfinished, is, stay) = (
+stopped_by_advance none.RecvFailed target inverter standing held after frames link told now next old new going up asks wrote (unfinished, is, stay) = (
   frames,
   link_with_receipt Failed link,
   up_fails told now next link up is,
   silent target inverter (Refused by.Recv) Failed standing held frames link old new refl refl (λ e. e) (λ e. e) (λ e. e) going asks unfinished wrote,
 )
-stopped_by_arrival (none.BadFrame fault) target inverter standing held after frames link told now next old new going up asks wrote (bad, is, stay) = (
+stopped_by_advance (none.BadFrame fault) target inverter standing held after frames link told now next old new going up asks wrote (bad, is, stay) = (
   frames,
   link,
   up_ends told next link (is ∙ up),
@@ -118,7 +118,7 @@ pub stopped_by_wait : (stop : Stop) (target : Target) (inverter : ℕ) (standing
     → StopsWait stop held after now next → Ended target inverter (Err stop) told next old new
 stopped_by_wait stop target inverter standing held after frames link told now next old new going up asks wrote stops =
     subst (λ (s : Stop). Ended target inverter (Err s) told next old new) (sym stops.says)
-    (stopped_by_arrival stops.why target inverter standing held after frames link told now next old new going up asks wrote stops.arrives)
+    (stopped_by_advance stops.why target inverter standing held after frames link told now next old new going up asks wrote stops.advance)
 
 -- the first bytes of the line of the points were written
 front_passed : (inverter : ℕ) (standing : Standing) (frame : Frame) (old mid new : Option (List ℕ)) → Appends old mid (found_text (found_at standing.stage))

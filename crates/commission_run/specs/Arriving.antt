@@ -7,7 +7,7 @@ use Rattle.mbap_frames.specs.Frame.{frame_spelling}
 use Rattle.mbap_frames.specs.Stream.{frames_spelling}
 use Rattle.frame_inbox.specs.declared.inbox.NoFrame.{NoFrame}
 use Rattle.frame_inbox.specs.declared.inbox.NoFrame.TheVariants as none
-use Rattle.frame_inbox.specs.Waiting.{Arrives}
+use Rattle.frame_inbox.specs.Waiting.{IsAdvance}
 use Rattle.commissioning.specs.declared.commission.Took.{Took}
 use Rattle.commissioning.specs.declared.found.Record702.{Record702}
 use Rattle.commissioning.specs.Stage.{Standing, found_at}
@@ -35,7 +35,7 @@ refusal_of (none.BadFrame fault) = by.BadFrame fault
 pub record StopsWait (stop : Stop) (held after : List ℕ) (old new : Option Links) : Type 0 where
   pub why : NoFrame
   pub says : stop ≡ Refused (refusal_of why)
-  pub arrives : Arrives (Err why) held after old new
+  pub advance : IsAdvance (Err why) held after old new
 
 -- a request was cut short by a send that failed
 abbrev pub CutsShort : Stop → Option Frame → (old new : Option Links) → Type 0

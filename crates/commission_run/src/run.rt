@@ -15,7 +15,7 @@ ghost use Rattle.commission_run.specs.Course.{target_of, with_past_link};
 ghost use Rattle.commission_run.specs.Ends.{IsCourse, HasReplies, at_dialer, at_output};
 ghost use Rattle.commission_run.specs.Arriving as arriving;
 ghost use Rattle.commission_run.specs.Arriving.{CutsShort, IsHandled, StopsWait, gained_text, with_current};
-ghost use Rattle.frame_inbox.specs.Waiting.{Arrives};
+ghost use Rattle.frame_inbox.specs.Waiting.{IsAdvance};
 
 use crate::job::Job;
 use crate::line::{Line, commissioned_text, found_text};
@@ -95,8 +95,8 @@ fn converse<N: Dialer, O: Sink>(job: Job, dialer: &mut N, out: &mut O) -> Result
 
 /// Hands out the next frame. Where none is whole yet it receives one piece, and hands out none.
 fn advance<N: Dialer>(inbox: &mut Inbox, dialer: &mut N) -> Result<Option<Frame>, Stop>
-    ensures arrives { IfOk result (λ frame.
-        Arrives (Ok frame) inbox.old inbox.new (N.links dialer.old) (N.links dialer.new)) }
+    ensures advance { IfOk result (λ frame.
+        IsAdvance (Ok frame) inbox.old inbox.new (N.links dialer.old) (N.links dialer.new)) }
     ensures none { IfErr result (λ stop.
         StopsWait stop inbox.old inbox.new (N.links dialer.old) (N.links dialer.new)) }
     ensures bound { length inbox.new < 520 }

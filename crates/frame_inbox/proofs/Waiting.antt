@@ -7,7 +7,7 @@ use Rattle.mbap_frames.specs.declared.frame.Frame.{Frame}
 use Rattle.frame_inbox.specs.declared.inbox.NoFrame.{NoFrame}
 use Rattle.frame_inbox.specs.declared.inbox.NoFrame.TheVariants as none
 use Rattle.mbap_frames.specs.Stream.{IsUnfinished}
-use Rattle.frame_inbox.specs.Waiting.{with_pieces, GivesNone, Receives, Comes, Waits, Arrives}
+use Rattle.frame_inbox.specs.Waiting.{with_pieces, GivesNone, Receives, EndsWait, IsWait, IsAdvance}
 
 -- so far some pieces came
 pub record IsWaiting (unread rest : List ℕ) (old new : Option Links) : Type 0 where
@@ -47,7 +47,7 @@ none_yet unread old =
 
 -- one more came
 pub one_more : (unread rest after : List ℕ) (old new next : Option Links) → IsWaiting unread rest old new
-    → Arrives (Ok None) rest after new next → IsWaiting unread after old next
+    → IsAdvance (Ok None) rest after new next → IsWaiting unread after old next
 one_more unread rest after old new next waiting came =
     let pieces = waiting.pieces in
     record {
@@ -63,29 +63,29 @@ one_more unread rest after old new next waiting came =
 
 -- a frame stands first then
 pub by_frame : (frame : Frame) (unread rest after : List ℕ) (old new next : Option Links) → IsWaiting unread rest old new
-    → Arrives (Ok (Some frame)) rest after new next → Waits (Ok frame) unread after old next
+    → IsAdvance (Ok (Some frame)) rest after new next → IsWait (Ok frame) unread after old next
 by_frame frame unread rest after old new next waiting came = record {
   pieces = waiting.pieces;
   between = new;
   receives = waiting.receives;
-  comes = (came.0, sym waiting.bytes ∙ came.1, came.2);
+  ends = (came.0, sym waiting.bytes ∙ came.1, came.2);
 }
 
 -- or none comes
 pub by_none : (why : NoFrame) (unread rest after : List ℕ) (old new next : Option Links) → IsWaiting unread rest old new
-    → Arrives (Err why) rest after new next → Waits (Err why) unread after old next
+    → IsAdvance (Err why) rest after new next → IsWait (Err why) unread after old next
 by_none why unread rest after old new next waiting came =
-    let P : List ℕ → Type 0 = λ bytes. Comes (Err why) bytes after new next in
+    let P : List ℕ → Type 0 = λ bytes. EndsWait (Err why) bytes after new next in
     record {
       pieces = waiting.pieces;
       between = new;
       receives = waiting.receives;
-      comes = subst P waiting.bytes came;
+      ends = subst P waiting.bytes came;
     }
 
 -- a receive gave no bytes behind less than a frame
 pub by_receive : (why : NoFrame) (unread rest : List ℕ) (old new : Option Links) → IsUnfinished unread
-    → GivesNone why old new → rest ≡ unread → Arrives (Err why) unread rest old new
+    → GivesNone why old new → rest ≡ unread → IsAdvance (Err why) unread rest old new
 by_receive none.Quiet unread rest old new less gives stay = (less, gives, stay)
 by_receive none.Closed unread rest old new less gives stay = (less, gives, stay)
 by_receive none.RecvFailed unread rest old new less gives stay = (less, gives, stay)

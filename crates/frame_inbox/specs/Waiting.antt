@@ -26,22 +26,26 @@ EndsLink none.Closed old new = new ≡ option_map (with_receipt Closed) old
 EndsLink none.RecvFailed old new = new ≡ option_map with_failure old
 EndsLink (none.BadFrame fault) old new = new ≡ old
 
--- what stands first in the bytes where no frame does: a fault, or less than a frame, which lacks the next receive
+-- what stands first in the bytes where no frame does: a fault, or less than a frame, which lacks the next
+-- receive
 abbrev pub Lacks : NoFrame → List ℕ → Type 0
 Lacks (none.BadFrame fault) bytes = HasFault bytes fault
 Lacks _ bytes = IsUnfinished bytes
 
--- What came of these bytes: the frame that stands first, with the others unread; or none, and all stay unread.
-abbrev pub Comes : Result Frame NoFrame → (bytes unread : List ℕ) → (old new : Option Links) → Type 0
-Comes (Ok frame) bytes unread old new = IsFrame frame × (bytes ≡ frame_spelling frame ++ unread) × (new ≡ old)
-Comes (Err why) bytes unread old new = Lacks why bytes × EndsLink why old new × (unread ≡ bytes)
+-- What came of these bytes: the frame that stands first, with the others unread; or none, and all stay
+-- unread.
+abbrev pub EndsWait : Result Frame NoFrame → (bytes unread : List ℕ) → (old new : Option Links) → Type 0
+EndsWait (Ok frame) bytes unread old new =
+    IsFrame frame × (bytes ≡ frame_spelling frame ++ unread) × (new ≡ old)
+EndsWait (Err why) bytes unread old new = Lacks why bytes × EndsLink why old new × (unread ≡ bytes)
 
 -- A wait: pieces were received, and this came of the bytes that were unread before with theirs behind them.
-pub record Waits (result : Result Frame NoFrame) (unread rest : List ℕ) (old new : Option Links) : Type 0 where
+pub record IsWait (result : Result Frame NoFrame) (unread rest : List ℕ) (old new : Option Links)
+    : Type 0 where
   pub pieces : List (List ℕ)
   pub between : Option Links
   pub receives : Receives pieces old between
-  pub comes : Comes result (unread ++ concat pieces) rest between new
+  pub ends : EndsWait result (unread ++ concat pieces) rest between new
 
 -- a receive failed where the count of faults rose, and else the count stands
 abbrev pub Counts : {T : Type 0} → Result T NoFrame → (old new : ℕ) → Type 0
@@ -53,12 +57,13 @@ abbrev pub GivesNone : NoFrame → (old new : Option Links) → Type 0
 GivesNone (none.BadFrame fault) old new = ⊥
 GivesNone why old new = EndsLink why old new
 
--- What became of the unread bytes and of the record: a frame was taken from their front; a piece came behind what is
--- less than a frame; or no frame comes.
-abbrev pub Arrives : Result (Option Frame) NoFrame → (unread rest : List ℕ) → (old new : Option Links) → Type 0
-Arrives (Ok (Some frame)) unread rest old new =
+-- What became of the unread bytes and of the record: a frame was taken from their front; a piece came behind
+-- what is less than a frame; or no frame comes.
+abbrev pub IsAdvance : Result (Option Frame) NoFrame → (unread rest : List ℕ) → (old new : Option Links)
+    → Type 0
+IsAdvance (Ok (Some frame)) unread rest old new =
     IsFrame frame × (unread ≡ frame_spelling frame ++ rest) × (new ≡ old)
-Arrives (Ok None) unread rest old new =
+IsAdvance (Ok None) unread rest old new =
     IsUnfinished unread × (piece : List ℕ) × (0 < length piece) × (rest ≡ unread ++ piece)
     × (new ≡ option_map (with_receipt (Bytes piece)) old)
-Arrives (Err why) unread rest old new = Lacks why unread × EndsLink why old new × (rest ≡ unread)
+IsAdvance (Err why) unread rest old new = Lacks why unread × EndsLink why old new × (rest ≡ unread)

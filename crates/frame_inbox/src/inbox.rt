@@ -2,7 +2,7 @@ ghost use Rattle.std.specs.Prelude.{◌≡◌, ◌<◌, ◌≤◌, [], length, t
 ghost use Rattle.std.specs.List.{slice_range};
 ghost use Rattle.std.specs.Option.{option_map};
 ghost use Rattle.world_traits.specs.Links.{Bytes, with_receipt};
-ghost use Rattle.frame_inbox.specs.Waiting.{Arrives, Counts, GivesNone, Waits};
+ghost use Rattle.frame_inbox.specs.Waiting.{Counts, GivesNone, IsAdvance, IsWait};
 
 use mbap_frames::{Frame, FrameFault, Frames, Got, MAX_FRAME};
 use std::marker::Model;
@@ -64,7 +64,7 @@ impl Inbox {
     /// Waits for the next frame: takes one piece after another from the link that is up, as long as what came is less
     /// than a frame.
     pub fn next_frame<N: Dialer>(&mut self, dialer: &mut N) -> Result<Frame, NoFrame>
-        ensures waits { Waits result self.old self.new (N.links dialer.old) (N.links dialer.new) }
+        ensures wait { IsWait result self.old self.new (N.links dialer.old) (N.links dialer.new) }
         ensures faults { Counts result (N.faults dialer.old) (N.faults dialer.new) }
     {
         loop {
@@ -76,7 +76,7 @@ impl Inbox {
 
     /// Hands out the next frame. Where none is whole yet it receives one piece, and hands out none.
     pub fn advance<N: Dialer>(&mut self, dialer: &mut N) -> Result<Option<Frame>, NoFrame>
-        ensures arrives { Arrives result self.old self.new (N.links dialer.old) (N.links dialer.new) }
+        ensures advance { IsAdvance result self.old self.new (N.links dialer.old) (N.links dialer.new) }
         ensures bound { length self.new < 520 }
         ensures faults { Counts result (N.faults dialer.old) (N.faults dialer.new) }
         ensures later { N.faults dialer.old ≤ N.faults dialer.new }

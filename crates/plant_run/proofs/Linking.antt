@@ -6,7 +6,7 @@ use Rattle.mbap_frames.specs.declared.frame.Frame.{Frame}
 use Rattle.mbap_frames.specs.Frame.{frame_spelling}
 use Rattle.frame_inbox.specs.declared.inbox.NoFrame.{NoFrame}
 use Rattle.frame_inbox.specs.declared.inbox.NoFrame.TheVariants as none
-use Rattle.frame_inbox.specs.Waiting.{with_pieces, Waits}
+use Rattle.frame_inbox.specs.Waiting.{with_pieces, IsWait}
 use Rattle.inverter_worker.specs.declared.job.Job.{Job}
 use Rattle.inverter_worker.specs.declared.input.Input.{Input}
 use Rattle.inverter_worker.specs.declared.input.Input.TheVariants as input
@@ -15,7 +15,7 @@ use Rattle.inverter_worker.specs.declared.output.Output.TheVariants as output
 use Rattle.inverter_worker.specs.declared.output.Asked.{Asked}
 use Rattle.inverter_worker.specs.declared.state.State.{State}
 use Rattle.inverter_worker.specs.Runs.{RunStep, LeadsTo, first_state}
-use Rattle.worker_turn.specs.Doing.{World, IsDone, AreDone, arrival, request_frame}
+use Rattle.worker_turn.specs.Doing.{World, IsDone, AreDone, input_of_wait, request_frame}
 use Rattle.worker_turn.proofs.Reading.{same_links}
 use Rattle.plant_run.specs.Acts.{Act, acts, is_dialed, before_links, on_links}
 use Rattle.plant_run.specs.Agreement.{AgreesEach, LinksAgree}
@@ -217,46 +217,46 @@ module _ (job : Job) (past : List Link) (link : Link) (old new : World) (told : 
       → between ≡ Some (links_at (On past (link_with_pieces pieces link)))
   between_is pieces between is = is ∙ ap (λ (o : Option Links). option_map (with_pieces pieces) o) told ∙ ap (λ (l : Links). Some l) (pieces_on pieces link)
 
-  comes : (result : Result Frame NoFrame) → Waits result old.unread new.unread old.links new.links → Moves job (On past link) output.Receive (arrival result) old new
-  comes (Ok frame) waits = record {
-    to = On past (link_with_pieces waits.pieces link);
-    told = waits.comes.2 ∙ between_is waits.pieces waits.between waits.receives.links;
+  waited : (result : Result Frame NoFrame) → IsWait result old.unread new.unread old.links new.links → Moves job (On past link) output.Receive (input_of_wait result) old new
+  waited (Ok frame) wait = record {
+    to = On past (link_with_pieces wait.pieces link);
+    told = wait.ends.2 ∙ between_is wait.pieces wait.between wait.receives.links;
     same = refl;
     back = λ later last on.
-        on_by job (record { output = output.Receive; came = input.Frame frame }) later last refl past old.unread new.unread link (link_with_pieces waits.pieces link)
-        (λ final goes. goes_frame job frame waits.pieces (before_links later) old.unread new.unread link final waits.comes.0 waits.comes.1 goes) on;
+        on_by job (record { output = output.Receive; came = input.Frame frame }) later last refl past old.unread new.unread link (link_with_pieces wait.pieces link)
+        (λ final goes. goes_frame job frame wait.pieces (before_links later) old.unread new.unread link final wait.ends.0 wait.ends.1 goes) on;
   }
-  comes (Err none.Quiet) waits = record {
-    to = Down (record { past = past; current = Some (link_with_receipt Quiet (link_with_pieces waits.pieces link)) });
-    told = waits.comes.1 ∙ ap (λ (o : Option Links). option_map (with_receipt Quiet) o) (between_is waits.pieces waits.between waits.receives.links);
+  waited (Err none.Quiet) wait = record {
+    to = Down (record { past = past; current = Some (link_with_receipt Quiet (link_with_pieces wait.pieces link)) });
+    told = wait.ends.1 ∙ ap (λ (o : Option Links). option_map (with_receipt Quiet) o) (between_is wait.pieces wait.between wait.receives.links);
     same = refl;
     back = λ later last off.
-        over_by job (record { output = output.Receive; came = input.Quiet }) later last refl past old.unread link (link_with_receipt Quiet (link_with_pieces waits.pieces link))
-        (goes_end job input.Quiet waits.pieces (Quiet ∷ []) (before_links later) old.unread link _ (gets_silence waits.pieces Quiet link) waits.comes.0) off;
+        over_by job (record { output = output.Receive; came = input.Quiet }) later last refl past old.unread link (link_with_receipt Quiet (link_with_pieces wait.pieces link))
+        (goes_end job input.Quiet wait.pieces (Quiet ∷ []) (before_links later) old.unread link _ (gets_silence wait.pieces Quiet link) wait.ends.0) off;
   }
-  comes (Err none.Closed) waits = record {
-    to = Down (record { past = past; current = Some (link_with_receipt Closed (link_with_pieces waits.pieces link)) });
-    told = waits.comes.1 ∙ ap (λ (o : Option Links). option_map (with_receipt Closed) o) (between_is waits.pieces waits.between waits.receives.links);
+  waited (Err none.Closed) wait = record {
+    to = Down (record { past = past; current = Some (link_with_receipt Closed (link_with_pieces wait.pieces link)) });
+    told = wait.ends.1 ∙ ap (λ (o : Option Links). option_map (with_receipt Closed) o) (between_is wait.pieces wait.between wait.receives.links);
     same = refl;
     back = λ later last off.
-        over_by job (record { output = output.Receive; came = input.Closed }) later last refl past old.unread link (link_with_receipt Closed (link_with_pieces waits.pieces link))
-        (goes_end job input.Closed waits.pieces (Closed ∷ []) (before_links later) old.unread link _ (gets_silence waits.pieces Closed link) waits.comes.0) off;
+        over_by job (record { output = output.Receive; came = input.Closed }) later last refl past old.unread link (link_with_receipt Closed (link_with_pieces wait.pieces link))
+        (goes_end job input.Closed wait.pieces (Closed ∷ []) (before_links later) old.unread link _ (gets_silence wait.pieces Closed link) wait.ends.0) off;
   }
-  comes (Err none.RecvFailed) waits = record {
-    to = Down (record { past = past ++ link_with_receipt Failed (link_with_pieces waits.pieces link) ∷ []; current = None });
-    told = waits.comes.1 ∙ ap (λ (o : Option Links). option_map with_failure o) (between_is waits.pieces waits.between waits.receives.links);
+  waited (Err none.RecvFailed) wait = record {
+    to = Down (record { past = past ++ link_with_receipt Failed (link_with_pieces wait.pieces link) ∷ []; current = None });
+    told = wait.ends.1 ∙ ap (λ (o : Option Links). option_map with_failure o) (between_is wait.pieces wait.between wait.receives.links);
     same = refl;
     back = λ later last off.
-        over_by job (record { output = output.Receive; came = input.RecvFailed }) later last refl past old.unread link (link_with_receipt Failed (link_with_pieces waits.pieces link))
-        (goes_end job input.RecvFailed waits.pieces (Failed ∷ []) (before_links later) old.unread link _ (gets_silence waits.pieces Failed link) waits.comes.0) off;
+        over_by job (record { output = output.Receive; came = input.RecvFailed }) later last refl past old.unread link (link_with_receipt Failed (link_with_pieces wait.pieces link))
+        (goes_end job input.RecvFailed wait.pieces (Failed ∷ []) (before_links later) old.unread link _ (gets_silence wait.pieces Failed link) wait.ends.0) off;
   }
-  comes (Err (none.BadFrame fault)) waits = record {
-    to = Down (record { past = past; current = Some (link_with_pieces waits.pieces link) });
-    told = waits.comes.1 ∙ between_is waits.pieces waits.between waits.receives.links;
+  waited (Err (none.BadFrame fault)) wait = record {
+    to = Down (record { past = past; current = Some (link_with_pieces wait.pieces link) });
+    told = wait.ends.1 ∙ between_is wait.pieces wait.between wait.receives.links;
     same = refl;
     back = λ later last off.
-        over_by job (record { output = output.Receive; came = input.BadFrame }) later last refl past old.unread link (link_with_pieces waits.pieces link)
-        (goes_end job input.BadFrame waits.pieces [] (before_links later) old.unread link _ (gets_pieces waits.pieces link) (fault, waits.comes.0)) off;
+        over_by job (record { output = output.Receive; came = input.BadFrame }) later last refl past old.unread link (link_with_pieces wait.pieces link)
+        (goes_end job input.BadFrame wait.pieces [] (before_links later) old.unread link _ (gets_pieces wait.pieces link) (fault, wait.ends.0)) off;
   }
 
 -- a request is sent, or is not
@@ -291,7 +291,7 @@ receives : (job : Job) (at : Place) (came : Input) (old new : World) → is_up a
 receives job (Down links) came old new needs done told = absurd cc
 receives job (On past link) came old new needs done told =
     let P : Input → Type 0 = λ came. Moves job (On past link) output.Receive came old new in
-    subst P (sym done.1.is) (comes job past link old new told done.1.result done.1.waits)
+    subst P (sym done.1.is) (waited job past link old new told done.1.result done.1.wait)
 
 moves : (job : Job) (at : Place) (put : Output) (came : Input) (old new : World) → Needs put (is_up at) → IsDone job put came old new
     → old.links ≡ Some (links_at at) → Moves job at put came old new

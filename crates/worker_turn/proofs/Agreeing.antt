@@ -15,7 +15,7 @@ use Rattle.inverter_worker.specs.declared.input.Input.TheVariants as input
 use Rattle.inverter_worker.specs.declared.output.Output.{Output}
 use Rattle.inverter_worker.specs.declared.output.Output.TheVariants as output
 use Rattle.inverter_worker.specs.Runs.{RunStep}
-use Rattle.worker_turn.specs.Doing.{World, IsEntered, IsDone, AreDone, arrival}
+use Rattle.worker_turn.specs.Doing.{World, IsEntered, IsDone, AreDone, input_of_wait}
 use Rattle.worker_turn.specs.Agreeing.{made_by, calls_made, AreEntriesOf, failure_in, failures}
 
 -- entries of calls were gained
@@ -82,12 +82,12 @@ counts_one old new rose = rose
 same_faults : (old new : World) → new ≡ old → new.faults ≡ old.faults
 same_faults old new is = ap (λ (w : World). w.faults) is
 
-arrived : (result : Result Frame NoFrame) (old new : ℕ) → Counts result old new → IsCounted (length (failure_in (arrival result))) old new
-arrived (Ok frame) old new counts = counts_none old new counts
-arrived (Err none.Quiet) old new counts = counts_none old new counts
-arrived (Err none.Closed) old new counts = counts_none old new counts
-arrived (Err none.RecvFailed) old new counts = counts_one old new counts
-arrived (Err (none.BadFrame fault)) old new counts = counts_none old new counts
+answers_wait : (result : Result Frame NoFrame) (old new : ℕ) → Counts result old new → IsCounted (length (failure_in (input_of_wait result))) old new
+answers_wait (Ok frame) old new counts = counts_none old new counts
+answers_wait (Err none.Quiet) old new counts = counts_none old new counts
+answers_wait (Err none.Closed) old new counts = counts_none old new counts
+answers_wait (Err none.RecvFailed) old new counts = counts_one old new counts
+answers_wait (Err (none.BadFrame fault)) old new counts = counts_none old new counts
 
 counted_one : (job : Job) (output : Output) (came : Input) (old new : World) → IsDone job output came old new
     → IsCounted (length (failure_in came)) old.faults new.faults
@@ -103,7 +103,7 @@ counted_one job (output.Send request clock) input.SentAll old new done = counts_
 counted_one job (output.Send request clock) input.SendFailed old new done = counts_one old.faults new.faults done.2
 counted_one job output.Receive came old new done =
     let P : Input → Type 0 = λ came. IsCounted (length (failure_in came)) old.faults new.faults in
-    subst P (sym done.1.is) (arrived done.1.result old.faults new.faults done.1.counts)
+    subst P (sym done.1.is) (answers_wait done.1.result old.faults new.faults done.1.counts)
 counted_one job output.HangUp input.HungUp old new done = counts_none old.faults new.faults (same_faults _ new done)
 counted_one job (output.Rest ms) input.Rested old new done = counts_none old.faults new.faults (same_faults old new done)
 counted_one job output.Nothing input.Go old new done = counts_none old.faults new.faults (same_faults old new done)

@@ -7,11 +7,11 @@ use Rattle.world_traits.specs.Links.{Answer, Bytes, Quiet, Closed, Failed, Link,
 use Rattle.mbap_frames.specs.declared.frame.Frame.{Frame}
 use Rattle.frame_inbox.specs.declared.inbox.NoFrame.{NoFrame}
 use Rattle.frame_inbox.specs.declared.inbox.NoFrame.TheVariants as none
-use Rattle.frame_inbox.specs.Waiting.{with_pieces, Comes}
+use Rattle.frame_inbox.specs.Waiting.{with_pieces, EndsWait}
 use Rattle.inverter_worker.specs.declared.job.Job.{Job}
 use Rattle.inverter_worker.specs.declared.input.Input.{Input}
 use Rattle.inverter_worker.specs.declared.output.Output.TheVariants as output
-use Rattle.worker_turn.specs.Doing.{World, IsDone, arrival}
+use Rattle.worker_turn.specs.Doing.{World, IsDone, input_of_wait}
 use Rattle.worker_turn.specs.Answered.{answers, answer_told, links_after, IsAnswered}
 
 -- links with one that is up
@@ -48,31 +48,31 @@ pieces_kept (piece ∷ pieces) past link =
 abbrev EndsAs : Input → List Link → Link → Option Links → Type 0
 EndsAs came past mid new = (after : Link) × (new ≡ Some (links_after came past after)) × Gains (answer_told came) mid after
 
-come : (result : Result Frame NoFrame) (bytes rest : List ℕ) (between new : Option Links) (past : List Link) (mid : Link) → Comes result bytes rest between new
-    → between ≡ Some (up_with past mid) → EndsAs (arrival result) past mid new
-come (Ok frame) bytes rest between new past mid comes is = (mid, comes.2 ∙ is, gains_none mid)
-come (Err none.Quiet) bytes rest between new past mid comes is =
-    (link_with_receipt Quiet mid, comes.1 ∙ ap (option_map (with_receipt Quiet)) is, gains_one Quiet mid)
-come (Err none.Closed) bytes rest between new past mid comes is =
-    (link_with_receipt Closed mid, comes.1 ∙ ap (option_map (with_receipt Closed)) is, gains_one Closed mid)
-come (Err none.RecvFailed) bytes rest between new past mid comes is =
-    (link_with_receipt Failed mid, comes.1 ∙ ap (option_map with_failure) is, gains_one Failed mid)
-come (Err (none.BadFrame fault)) bytes rest between new past mid comes is = (mid, comes.1 ∙ is, gains_none mid)
+ends_as : (result : Result Frame NoFrame) (bytes rest : List ℕ) (between new : Option Links) (past : List Link) (mid : Link) → EndsWait result bytes rest between new
+    → between ≡ Some (up_with past mid) → EndsAs (input_of_wait result) past mid new
+ends_as (Ok frame) bytes rest between new past mid ends is = (mid, ends.2 ∙ is, gains_none mid)
+ends_as (Err none.Quiet) bytes rest between new past mid ends is =
+    (link_with_receipt Quiet mid, ends.1 ∙ ap (option_map (with_receipt Quiet)) is, gains_one Quiet mid)
+ends_as (Err none.Closed) bytes rest between new past mid ends is =
+    (link_with_receipt Closed mid, ends.1 ∙ ap (option_map (with_receipt Closed)) is, gains_one Closed mid)
+ends_as (Err none.RecvFailed) bytes rest between new past mid ends is =
+    (link_with_receipt Failed mid, ends.1 ∙ ap (option_map with_failure) is, gains_one Failed mid)
+ends_as (Err (none.BadFrame fault)) bytes rest between new past mid ends is = (mid, ends.1 ∙ is, gains_none mid)
 
 pub answered : (job : Job) (came : Input) (old new : World) (links : Links) (link : Link) → IsDone job output.Receive came old new → old.links ≡ Some links
     → links.current ≡ Some link → IsAnswered came links link new.links
 answered job came old new links link done told up =
     let result = done.1.result in
-    let waits = done.1.waits in
+    let wait = done.1.wait in
     let shape : links ≡ up_with links.past link = ap (λ (c : Option Link). record { past = links.past; current = c }) up in
-    let kept = pieces_kept waits.pieces links.past link in
-    let between : waits.between ≡ Some (up_with links.past kept.0) =
-    waits.receives.links ∙ ap (option_map (with_pieces waits.pieces)) (told ∙ ap (λ (l : Links). Some l) shape) ∙ ap (λ (l : Links). Some l) kept.1 in
-    let ends = come result _ new.unread waits.between new.links links.past kept.0 waits.comes between in
-    let pieces : List Answer = map Bytes waits.pieces in
-    let ended : List Answer = answer_told (arrival result) in
+    let kept = pieces_kept wait.pieces links.past link in
+    let between : wait.between ≡ Some (up_with links.past kept.0) =
+    wait.receives.links ∙ ap (option_map (with_pieces wait.pieces)) (told ∙ ap (λ (l : Links). Some l) shape) ∙ ap (λ (l : Links). Some l) kept.1 in
+    let ends = ends_as result _ new.unread wait.between new.links links.past kept.0 wait.ends between in
+    let pieces : List Answer = map Bytes wait.pieces in
+    let ended : List Answer = answer_told (input_of_wait result) in
     let gains = gains_more pieces ended link kept.0 ends.0 kept.2 ends.2 in
-    let is : IsAnswered (arrival result) links link new.links =
-    record { pieces = waits.pieces; after = ends.0; answers = gains.0 ∙ sym (append_assoc (answers link) pieces ended); same = gains.1; now = ends.1 } in
+    let is : IsAnswered (input_of_wait result) links link new.links =
+    record { pieces = wait.pieces; after = ends.0; answers = gains.0 ∙ sym (append_assoc (answers link) pieces ended); same = gains.1; now = ends.1 } in
     let P : Input → Type 0 = λ i. IsAnswered i links link new.links in
     subst P (sym done.1.is) is

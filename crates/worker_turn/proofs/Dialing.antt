@@ -7,14 +7,14 @@ use Rattle.mbap_frames.specs.declared.frame.Frame.{Frame}
 use Rattle.mbap_frames.specs.Frame.{frame_spelling}
 use Rattle.frame_inbox.specs.declared.inbox.NoFrame.{NoFrame}
 use Rattle.frame_inbox.specs.declared.inbox.NoFrame.TheVariants as none
-use Rattle.frame_inbox.specs.Waiting.{with_pieces, Comes}
+use Rattle.frame_inbox.specs.Waiting.{with_pieces, EndsWait}
 use Rattle.inverter_worker.specs.declared.job.Job.{Job}
 use Rattle.inverter_worker.specs.declared.input.Input.{Input}
 use Rattle.inverter_worker.specs.declared.input.Input.TheVariants as input
 use Rattle.inverter_worker.specs.declared.output.Output.{Output}
 use Rattle.inverter_worker.specs.declared.output.Output.TheVariants as output
 use Rattle.inverter_worker.specs.Runs.{RunStep}
-use Rattle.worker_turn.specs.Doing.{World, IsDone, AreDone, arrival, request_frame}
+use Rattle.worker_turn.specs.Doing.{World, IsDone, AreDone, input_of_wait, request_frame}
 use Rattle.worker_turn.specs.Agreeing.{Endpoint, endpoint, endpoints, dialed_in, dialed}
 use Rattle.worker_turn.proofs.Reading.{same_links}
 
@@ -53,16 +53,16 @@ ends_joined more later old mid new first last = λ before told.
     let behind = last here.0 here.1 in
     (behind.0, behind.1, behind.2 ∙ ap (λ (t : List Endpoint). t ++ later) here.2 ∙ append_assoc (endpoints before) more later)
 
-ends_come : (job : Job) (result : Result Frame NoFrame) (bytes rest : List ℕ) (old new : Option Links) → Comes result bytes rest old new
-    → Ends (dialed_in job (arrival result)) old new
-ends_come job (Ok frame) bytes rest old new comes = ends_same old new comes.2
-ends_come job (Err none.Quiet) bytes rest old new comes =
-    no_more (with_receipt Quiet) old new (λ links. same_ends (link_with_receipt Quiet) (λ _. refl) links.past links.current) comes.1
-ends_come job (Err none.Closed) bytes rest old new comes =
-    no_more (with_receipt Closed) old new (λ links. same_ends (link_with_receipt Closed) (λ _. refl) links.past links.current) comes.1
-ends_come job (Err none.RecvFailed) bytes rest old new comes =
-    no_more with_failure old new (λ links. same_ends (link_with_receipt Failed) (λ _. refl) links.past links.current) comes.1
-ends_come job (Err (none.BadFrame fault)) bytes rest old new comes = ends_same old new comes.1
+ends_wait : (job : Job) (result : Result Frame NoFrame) (bytes rest : List ℕ) (old new : Option Links) → EndsWait result bytes rest old new
+    → Ends (dialed_in job (input_of_wait result)) old new
+ends_wait job (Ok frame) bytes rest old new ends = ends_same old new ends.2
+ends_wait job (Err none.Quiet) bytes rest old new ends =
+    no_more (with_receipt Quiet) old new (λ links. same_ends (link_with_receipt Quiet) (λ _. refl) links.past links.current) ends.1
+ends_wait job (Err none.Closed) bytes rest old new ends =
+    no_more (with_receipt Closed) old new (λ links. same_ends (link_with_receipt Closed) (λ _. refl) links.past links.current) ends.1
+ends_wait job (Err none.RecvFailed) bytes rest old new ends =
+    no_more with_failure old new (λ links. same_ends (link_with_receipt Failed) (λ _. refl) links.past links.current) ends.1
+ends_wait job (Err (none.BadFrame fault)) bytes rest old new ends = ends_same old new ends.1
 
 ends_one : (job : Job) (output : Output) (came : Input) (old new : World) → IsDone job output came old new → Ends (dialed_in job came) old.links new.links
 ends_one job output.Goal (input.Goal goal) old new done = ends_same old.links new.links (same_links _ new done)
@@ -81,11 +81,11 @@ ends_one job (output.Send request clock) input.SendFailed old new done =
     let bytes = take done.1.0 (frame_spelling (request_frame job request)) in
     no_more (with_bytes bytes) old.links new.links (λ links. same_ends (link_with_bytes bytes) (λ _. refl) links.past links.current) done.1.2
 ends_one job output.Receive came old new done =
-    let waits = done.1.waits in
+    let wait = done.1.wait in
     let P : Input → Type 0 = λ came. Ends (dialed_in job came) old.links new.links in
-    subst P (sym done.1.is) (ends_joined [] (dialed_in job (arrival done.1.result)) old.links waits.between new.links
-    (no_more (with_pieces waits.pieces) old.links waits.between (pieces_ends waits.pieces) waits.receives.links)
-    (ends_come job done.1.result _ _ waits.between new.links waits.comes))
+    subst P (sym done.1.is) (ends_joined [] (dialed_in job (input_of_wait done.1.result)) old.links wait.between new.links
+    (no_more (with_pieces wait.pieces) old.links wait.between (pieces_ends wait.pieces) wait.receives.links)
+    (ends_wait job done.1.result _ _ wait.between new.links wait.ends))
 ends_one job output.HangUp input.HungUp old new done = no_more after_hang_up old.links new.links (λ links. refl) (same_links _ new done)
 ends_one job (output.Rest ms) input.Rested old new done = ends_same old.links new.links (same_links old new done)
 ends_one job output.Nothing input.Go old new done = ends_same old.links new.links (same_links old new done)

@@ -24,7 +24,7 @@ use Rattle.inverter_worker.specs.Answers.{IsAnswerTo, IsReplyTo}
 use Rattle.inverter_worker.specs.Runs.{RunStep, log, sends_of}
 use Rattle.inverter_worker.specs.Turns.{IsWithinTurn, reading_in, readings}
 use Rattle.inverter_worker.proofs.Runs.{LeadsTo-push}
-use Rattle.worker_turn.specs.Doing.{World, IsEntered, IsDone, AreDone, arrival}
+use Rattle.worker_turn.specs.Doing.{World, IsEntered, IsDone, AreDone, input_of_wait}
 use Rattle.worker_turn.specs.Desks.{IsTold, IsToldNow}
 use Rattle.worker_turn.specs.Acts.{is_last, Stands}
 use Rattle.worker_turn.specs.Turning.{pending, Follows, IsFresh}
@@ -36,14 +36,14 @@ replied (call.Link at inverter) (reply.Linked number) old new enters = tt
 replied (call.Link at inverter) _ old new enters = absurd enters.fits
 replied _ answer old new enters = tt
 
-arrived : (result : Result Frame NoFrame) → IsAnswerTo output.Receive (arrival result)
-arrived (Ok frame) = tt
-arrived (Err none.Quiet) = tt
-arrived (Err none.Closed) = tt
-arrived (Err none.RecvFailed) = tt
-arrived (Err (none.BadFrame fault)) = tt
+answers_wait : (result : Result Frame NoFrame) → IsAnswerTo output.Receive (input_of_wait result)
+answers_wait (Ok frame) = tt
+answers_wait (Err none.Quiet) = tt
+answers_wait (Err none.Closed) = tt
+answers_wait (Err none.RecvFailed) = tt
+answers_wait (Err (none.BadFrame fault)) = tt
 
-no_reading : (result : Result Frame NoFrame) → reading_in (arrival result) ≡ []
+no_reading : (result : Result Frame NoFrame) → reading_in (input_of_wait result) ≡ []
 no_reading (Ok frame) = refl
 no_reading (Err none.Quiet) = refl
 no_reading (Err none.Closed) = refl
@@ -81,7 +81,7 @@ moves job (output.Send request clock) input.SentAll old new done = still _ _ old
 moves job (output.Send request clock) input.SendFailed old new done = still _ _ old new _ tt refl refl done.0
 moves job output.Receive came old new done =
     let P : Input → Type 0 = λ came. IsAnswerTo output.Receive came in
-    still output.Receive came old new _ (subst P (sym done.1.is) (arrived done.1.result)) (ap reading_in done.1.is ∙ no_reading done.1.result) refl done.0
+    still output.Receive came old new _ (subst P (sym done.1.is) (answers_wait done.1.result)) (ap reading_in done.1.is ∙ no_reading done.1.result) refl done.0
 moves job output.HangUp input.HungUp old new done = still _ _ old new _ tt refl refl done
 moves job (output.Rest ms) input.Rested old new done = still _ _ old new _ tt refl refl done
 moves job output.Nothing input.Go old new done = still _ _ old new _ tt refl refl done
@@ -126,12 +126,12 @@ told_still tests tests_now inverter made begun mid now (input.Goal goal) last fr
 told_still tests tests_now inverter made begun mid now input.Full last front told = last.full told
 told_still tests tests_now inverter made begun mid now _ last front told = tt
 
-pub not_arrived : (goal : Goal) (result : Result Frame NoFrame) → input.Goal goal ≡ arrival result → ⊥
-not_arrived goal (Ok frame) is = cc
-not_arrived goal (Err none.Quiet) is = cc
-not_arrived goal (Err none.Closed) is = cc
-not_arrived goal (Err none.RecvFailed) is = cc
-not_arrived goal (Err (none.BadFrame fault)) is = cc
+pub no_goal : (goal : Goal) (result : Result Frame NoFrame) → input.Goal goal ≡ input_of_wait result → ⊥
+no_goal goal (Ok frame) is = cc
+no_goal goal (Err none.Quiet) is = cc
+no_goal goal (Err none.Closed) is = cc
+no_goal goal (Err none.RecvFailed) is = cc
+no_goal goal (Err (none.BadFrame fault)) is = cc
 
 -- a goal that came just now is told at the front
 told_goal : (job : Job) (last : Output) (tests : DeskTests) (inverter begun : ℕ) (desk : DeskState) (goal : Goal) (old mid new : World) → IsFresh last old mid
@@ -141,7 +141,7 @@ told_goal job output.Goal tests inverter begun desk goal old mid new fresh done 
     let Q : ℕ → Type 0 = λ n. tests.may_tell n desk.front inverter goal in
     let made : length desk.made ≡ length old.made = ap length (sym is ∙ ap (λ (w : World). w.made) done ∙ ap (λ (w : World). w.made) fresh) in
     (desk.front, front, omega arith, subst Q made told)
-told_goal job output.Receive tests inverter begun desk goal old mid new fresh done is front told = absurd (not_arrived goal done.1.result done.1.is)
+told_goal job output.Receive tests inverter begun desk goal old mid new fresh done is front told = absurd (no_goal goal done.1.result done.1.is)
 told_goal job _ tests inverter begun desk goal old mid new fresh done is front told = absurd done
 
 told_now : (job : Job) (last : Output) (came : Input) (tests : DeskTests) (inverter begun : ℕ) (desk : DeskState) (old mid new : World) → IsFresh last old mid

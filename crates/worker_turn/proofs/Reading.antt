@@ -10,14 +10,14 @@ use Rattle.mbap_frames.specs.Frame.{IsFrame, frame_spelling}
 use Rattle.mbap_frames.specs.Stream.{HasFault, frames_spelling}
 use Rattle.frame_inbox.specs.declared.inbox.NoFrame.{NoFrame}
 use Rattle.frame_inbox.specs.declared.inbox.NoFrame.TheVariants as none
-use Rattle.frame_inbox.specs.Waiting.{with_pieces, Comes, Waits}
+use Rattle.frame_inbox.specs.Waiting.{with_pieces, EndsWait, IsWait}
 use Rattle.inverter_worker.specs.declared.job.Job.{Job}
 use Rattle.inverter_worker.specs.declared.input.Input.{Input}
 use Rattle.inverter_worker.specs.declared.input.Input.TheVariants as input
 use Rattle.inverter_worker.specs.declared.output.Output.{Output}
 use Rattle.inverter_worker.specs.declared.output.Output.TheVariants as output
 use Rattle.inverter_worker.specs.Runs.{RunStep}
-use Rattle.worker_turn.specs.Doing.{World, IsDone, AreDone, arrival, request_frame}
+use Rattle.worker_turn.specs.Doing.{World, IsDone, AreDone, input_of_wait, request_frame}
 use Rattle.worker_turn.specs.Agreeing.{IsRead, frames_with, frames_after, IsSent, Sends, AreSent}
 
 -- what a change of the links tells of the link that is up then
@@ -96,27 +96,27 @@ one_frame frames frame rest =
     ap (λ (t : List ℕ). t ++ rest) (flat_map-append frame_spelling frames (frame ∷ []) ∙ ap (λ (t : List ℕ). frames_spelling frames ++ t) (append-nil (frame_spelling frame)))
     ∙ append_assoc (frames_spelling frames) (frame_spelling frame) rest
 
-read_come : (result : Result Frame NoFrame) (frames : List Frame) (bytes rest : List ℕ) (old new : Option Links) → Comes result bytes rest old new → IsRead frames bytes old
-    → IsRead (frames_with frames (arrival result)) rest new
-read_come (Ok frame) frames bytes rest old new comes read = λ links link told up.
-    read links link (sym comes.2 ∙ told) up ∙ ap (λ (t : List ℕ). frames_spelling frames ++ t) comes.1 ∙ sym (one_frame frames frame rest)
-read_come (Err none.Quiet) frames bytes rest old new comes read =
-    through (with_receipt Quiet) [] [] frames frames bytes rest old new (adds_receipt Quiet) comes.1
-    (ap (λ (t : List ℕ). frames_spelling frames ++ t) comes.2 ∙ sym (append-nil (frames_spelling frames ++ bytes))) read
-read_come (Err none.Closed) frames bytes rest old new comes read =
-    through (with_receipt Closed) [] [] frames frames bytes rest old new (adds_receipt Closed) comes.1
-    (ap (λ (t : List ℕ). frames_spelling frames ++ t) comes.2 ∙ sym (append-nil (frames_spelling frames ++ bytes))) read
-read_come (Err none.RecvFailed) frames bytes rest old new comes read =
-    through with_failure [] [] frames frames bytes rest old new (adds_failure [] []) comes.1
-    (ap (λ (t : List ℕ). frames_spelling frames ++ t) comes.2 ∙ sym (append-nil (frames_spelling frames ++ bytes))) read
-read_come (Err (none.BadFrame fault)) frames bytes rest old new comes read = stays frames bytes rest old new comes.1 comes.2 read
+read_end : (result : Result Frame NoFrame) (frames : List Frame) (bytes rest : List ℕ) (old new : Option Links) → EndsWait result bytes rest old new → IsRead frames bytes old
+    → IsRead (frames_with frames (input_of_wait result)) rest new
+read_end (Ok frame) frames bytes rest old new ends read = λ links link told up.
+    read links link (sym ends.2 ∙ told) up ∙ ap (λ (t : List ℕ). frames_spelling frames ++ t) ends.1 ∙ sym (one_frame frames frame rest)
+read_end (Err none.Quiet) frames bytes rest old new ends read =
+    through (with_receipt Quiet) [] [] frames frames bytes rest old new (adds_receipt Quiet) ends.1
+    (ap (λ (t : List ℕ). frames_spelling frames ++ t) ends.2 ∙ sym (append-nil (frames_spelling frames ++ bytes))) read
+read_end (Err none.Closed) frames bytes rest old new ends read =
+    through (with_receipt Closed) [] [] frames frames bytes rest old new (adds_receipt Closed) ends.1
+    (ap (λ (t : List ℕ). frames_spelling frames ++ t) ends.2 ∙ sym (append-nil (frames_spelling frames ++ bytes))) read
+read_end (Err none.RecvFailed) frames bytes rest old new ends read =
+    through with_failure [] [] frames frames bytes rest old new (adds_failure [] []) ends.1
+    (ap (λ (t : List ℕ). frames_spelling frames ++ t) ends.2 ∙ sym (append-nil (frames_spelling frames ++ bytes))) read
+read_end (Err (none.BadFrame fault)) frames bytes rest old new ends read = stays frames bytes rest old new ends.1 ends.2 read
 
-read_wait : (result : Result Frame NoFrame) (frames : List Frame) (unread rest : List ℕ) (old new : Option Links) → Waits result unread rest old new → IsRead frames unread old
-    → IsRead (frames_with frames (arrival result)) rest new
-read_wait result frames unread rest old new waits read =
-    let bytes = concat waits.pieces in
-    read_come result frames (unread ++ bytes) rest waits.between new waits.comes
-    (through (with_pieces waits.pieces) bytes [] frames frames unread (unread ++ bytes) old waits.between (adds_pieces waits.pieces) waits.receives.links
+read_wait : (result : Result Frame NoFrame) (frames : List Frame) (unread rest : List ℕ) (old new : Option Links) → IsWait result unread rest old new → IsRead frames unread old
+    → IsRead (frames_with frames (input_of_wait result)) rest new
+read_wait result frames unread rest old new wait read =
+    let bytes = concat wait.pieces in
+    read_end result frames (unread ++ bytes) rest wait.between new wait.ends
+    (through (with_pieces wait.pieces) bytes [] frames frames unread (unread ++ bytes) old wait.between (adds_pieces wait.pieces) wait.receives.links
     (sym (append_assoc (frames_spelling frames) unread bytes)) read)
 
 read_one : (job : Job) (output : Output) (came : Input) (old new : World) (frames : List Frame) → IsDone job output came old new → IsRead frames old.unread old.links
@@ -140,7 +140,7 @@ read_one job (output.Send request clock) input.SendFailed old new frames done re
     (ap (λ (t : List ℕ). frames_spelling frames ++ t) (same_unread _ new done.0) ∙ sym (append-nil (frames_spelling frames ++ old.unread))) read
 read_one job output.Receive came old new frames done read =
     let P : Input → Type 0 = λ came. IsRead (frames_with frames came) new.unread new.links in
-    subst P (sym done.1.is) (read_wait done.1.result frames old.unread new.unread old.links new.links done.1.waits read)
+    subst P (sym done.1.is) (read_wait done.1.result frames old.unread new.unread old.links new.links done.1.wait read)
 read_one job output.HangUp input.HungUp old new frames done read = λ links link told up.
     let before = told_of after_hang_up old.links links (sym (same_links _ new done) ∙ told) in
     let P : Links → Type 0 = λ l. l.current ≡ Some link in
@@ -160,19 +160,19 @@ each_push : (frames : List Frame) (frame : Frame) → AllByRecursion IsFrame fra
 each_push [] frame all is = (is, tt)
 each_push (first ∷ frames) frame all is = (all.0, each_push frames frame all.1 is)
 
-each_come : (result : Result Frame NoFrame) (frames : List Frame) (bytes rest : List ℕ) (old new : Option Links) → Comes result bytes rest old new → AllByRecursion IsFrame frames
-    → AllByRecursion IsFrame (frames_with frames (arrival result))
-each_come (Ok frame) frames bytes rest old new comes all = each_push frames frame all comes.0
-each_come (Err none.Quiet) frames bytes rest old new comes all = all
-each_come (Err none.Closed) frames bytes rest old new comes all = all
-each_come (Err none.RecvFailed) frames bytes rest old new comes all = all
-each_come (Err (none.BadFrame fault)) frames bytes rest old new comes all = all
+each_end : (result : Result Frame NoFrame) (frames : List Frame) (bytes rest : List ℕ) (old new : Option Links) → EndsWait result bytes rest old new → AllByRecursion IsFrame frames
+    → AllByRecursion IsFrame (frames_with frames (input_of_wait result))
+each_end (Ok frame) frames bytes rest old new ends all = each_push frames frame all ends.0
+each_end (Err none.Quiet) frames bytes rest old new ends all = all
+each_end (Err none.Closed) frames bytes rest old new ends all = all
+each_end (Err none.RecvFailed) frames bytes rest old new ends all = all
+each_end (Err (none.BadFrame fault)) frames bytes rest old new ends all = all
 
 each_one : (job : Job) (output : Output) (came : Input) (old new : World) (frames : List Frame) → IsDone job output came old new → AllByRecursion IsFrame frames
     → AllByRecursion IsFrame (frames_with frames came)
 each_one job output.Receive came old new frames done all =
     let P : Input → Type 0 = λ came. AllByRecursion IsFrame (frames_with frames came) in
-    subst P (sym done.1.is) (each_come done.1.result frames _ _ _ _ done.1.waits.comes all)
+    subst P (sym done.1.is) (each_end done.1.result frames _ _ _ _ done.1.wait.ends all)
 each_one job output input.Dialed old new frames done all = tt
 each_one job output (input.Frame frame) old new frames done all = absurd done
 each_one job output came old new frames done all = all
@@ -183,17 +183,17 @@ each_all job first [] old new frames done all = all
 each_all job first (next ∷ later) old new frames done all =
     each_all job next.output later done.0 new (frames_with frames next.input) done.2 (each_one job first next.input old done.0 frames done.1 all)
 
-bad_come : (result : Result Frame NoFrame) (bytes rest : List ℕ) (old new : Option Links) → input.BadFrame ≡ arrival result → Comes result bytes rest old new
+bad_end : (result : Result Frame NoFrame) (bytes rest : List ℕ) (old new : Option Links) → input.BadFrame ≡ input_of_wait result → EndsWait result bytes rest old new
     → (fault : FrameFault) × HasFault rest fault
-bad_come (Ok frame) bytes rest old new is comes = absurd cc
-bad_come (Err none.Quiet) bytes rest old new is comes = absurd cc
-bad_come (Err none.Closed) bytes rest old new is comes = absurd cc
-bad_come (Err none.RecvFailed) bytes rest old new is comes = absurd cc
-bad_come (Err (none.BadFrame fault)) bytes rest old new is comes =
-    let P : List ℕ → Type 0 = λ t. HasFault t fault in (fault, subst P (sym comes.2) comes.0)
+bad_end (Ok frame) bytes rest old new is ends = absurd cc
+bad_end (Err none.Quiet) bytes rest old new is ends = absurd cc
+bad_end (Err none.Closed) bytes rest old new is ends = absurd cc
+bad_end (Err none.RecvFailed) bytes rest old new is ends = absurd cc
+bad_end (Err (none.BadFrame fault)) bytes rest old new is ends =
+    let P : List ℕ → Type 0 = λ t. HasFault t fault in (fault, subst P (sym ends.2) ends.0)
 
 pub bad : (job : Job) (old new : World) → IsDone job output.Receive input.BadFrame old new → (fault : FrameFault) × HasFault new.unread fault
-bad job old new done = bad_come done.1.result _ new.unread _ new.links done.1.is done.1.waits.comes
+bad job old new done = bad_end done.1.result _ new.unread _ new.links done.1.is done.1.wait.ends
 
 -- what is sent on the link that is up
 sends_through : (f : Links → Links) (received sent before after : List ℕ) (old new : Option Links) → Adds f received sent → new ≡ option_map f old
@@ -207,15 +207,15 @@ sends_through f received sent before after old new adds is bytes were = λ links
 sends_none : (before : List ℕ) (old new : Option Links) → new ≡ old → IsSent before old → IsSent before new
 sends_none before old new is were = λ links link told up. were links link (sym is ∙ told) up
 
-sent_come : (result : Result Frame NoFrame) (sent bytes rest : List ℕ) (old new : Option Links) → Comes result bytes rest old new → IsSent sent old → IsSent sent new
-sent_come (Ok frame) sent bytes rest old new comes were = sends_none sent old new comes.2 were
-sent_come (Err none.Quiet) sent bytes rest old new comes were =
-    sends_through (with_receipt Quiet) [] [] sent sent old new (adds_receipt Quiet) comes.1 (sym (append-nil sent)) were
-sent_come (Err none.Closed) sent bytes rest old new comes were =
-    sends_through (with_receipt Closed) [] [] sent sent old new (adds_receipt Closed) comes.1 (sym (append-nil sent)) were
-sent_come (Err none.RecvFailed) sent bytes rest old new comes were =
-    sends_through with_failure [] [] sent sent old new (adds_failure [] []) comes.1 (sym (append-nil sent)) were
-sent_come (Err (none.BadFrame fault)) sent bytes rest old new comes were = sends_none sent old new comes.1 were
+sent_end : (result : Result Frame NoFrame) (sent bytes rest : List ℕ) (old new : Option Links) → EndsWait result bytes rest old new → IsSent sent old → IsSent sent new
+sent_end (Ok frame) sent bytes rest old new ends were = sends_none sent old new ends.2 were
+sent_end (Err none.Quiet) sent bytes rest old new ends were =
+    sends_through (with_receipt Quiet) [] [] sent sent old new (adds_receipt Quiet) ends.1 (sym (append-nil sent)) were
+sent_end (Err none.Closed) sent bytes rest old new ends were =
+    sends_through (with_receipt Closed) [] [] sent sent old new (adds_receipt Closed) ends.1 (sym (append-nil sent)) were
+sent_end (Err none.RecvFailed) sent bytes rest old new ends were =
+    sends_through with_failure [] [] sent sent old new (adds_failure [] []) ends.1 (sym (append-nil sent)) were
+sent_end (Err (none.BadFrame fault)) sent bytes rest old new ends were = sends_none sent old new ends.1 were
 
 abbrev pub Sent : Job → Output → Input → List ℕ → World → Type 0
 Sent job output came before new = (after : List ℕ) × Sends job output came before after × IsSent after new.links
@@ -244,11 +244,11 @@ sent_one job (output.Send request clock) input.SendFailed old new before done we
       sends_through (with_bytes bytes) [] bytes before (before ++ bytes) old.links new.links (adds_bytes bytes) done.1.2 refl were,
     )
 sent_one job output.Receive came old new before done were =
-    let waits = done.1.waits in (
+    let wait = done.1.wait in (
       before,
       refl,
-      sent_come done.1.result before _ new.unread waits.between new.links waits.comes
-          (sends_through (with_pieces waits.pieces) (concat waits.pieces) [] before before old.links waits.between (adds_pieces waits.pieces) waits.receives.links
+      sent_end done.1.result before _ new.unread wait.between new.links wait.ends
+          (sends_through (with_pieces wait.pieces) (concat wait.pieces) [] before before old.links wait.between (adds_pieces wait.pieces) wait.receives.links
           (sym (append-nil before)) were),
     )
 sent_one job output.HangUp input.HungUp old new before done were =

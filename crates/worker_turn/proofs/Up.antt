@@ -12,7 +12,7 @@ use Rattle.readback.specs.declared.judging.Judged.TheVariants.{WrongNumber, Wron
 use Rattle.readback.specs.Judging.{judgement}
 use Rattle.frame_inbox.specs.declared.inbox.NoFrame.{NoFrame}
 use Rattle.frame_inbox.specs.declared.inbox.NoFrame.TheVariants as none
-use Rattle.frame_inbox.specs.Waiting.{with_pieces, Comes}
+use Rattle.frame_inbox.specs.Waiting.{with_pieces, EndsWait}
 use Rattle.inverter_worker.specs.declared.job.Job.{Job}
 use Rattle.inverter_worker.specs.declared.input.Input.{Input}
 use Rattle.inverter_worker.specs.declared.input.Input.TheVariants as input
@@ -24,7 +24,7 @@ use Rattle.inverter_worker.specs.declared.state.Step.TheVariants.{Ready, Aiming,
 use Rattle.inverter_worker.specs.States.{due, in_window}
 use Rattle.inverter_worker.specs.Table.{row, other_frame_row, judgement_row}
 use Rattle.inverter_worker.specs.Runs.{RunStep, LeadsTo}
-use Rattle.worker_turn.specs.Doing.{World, IsDone, AreDone, arrival, request_frame}
+use Rattle.worker_turn.specs.Doing.{World, IsDone, AreDone, input_of_wait, request_frame}
 use Rattle.worker_turn.specs.Turning.{pending}
 use Rattle.worker_turn.specs.Requests.{IsUp}
 use Rattle.worker_turn.proofs.Reading.{told_of, same_links}
@@ -65,13 +65,13 @@ Keeps input.RecvFailed old new = Unit {0}
 Keeps input.HungUp old new = Unit {0}
 Keeps came old new = IsUp old → IsUp new
 
-keeps_come : (result : Result Frame NoFrame) (bytes rest : List ℕ) (old between new : Option Links) → (IsUp old → IsUp between) → Comes result bytes rest between new
-    → Keeps (arrival result) old new
-keeps_come (Ok frame) bytes rest old between new first comes = λ up. stays_same between new comes.2 (first up)
-keeps_come (Err none.Quiet) bytes rest old between new first comes = λ up. stays_through (with_receipt Quiet) between new (stays_receipt Quiet) comes.1 (first up)
-keeps_come (Err none.Closed) bytes rest old between new first comes = λ up. stays_through (with_receipt Closed) between new (stays_receipt Closed) comes.1 (first up)
-keeps_come (Err none.RecvFailed) bytes rest old between new first comes = tt
-keeps_come (Err (none.BadFrame fault)) bytes rest old between new first comes = λ up. stays_same between new comes.1 (first up)
+keeps_end : (result : Result Frame NoFrame) (bytes rest : List ℕ) (old between new : Option Links) → (IsUp old → IsUp between) → EndsWait result bytes rest between new
+    → Keeps (input_of_wait result) old new
+keeps_end (Ok frame) bytes rest old between new first ends = λ up. stays_same between new ends.2 (first up)
+keeps_end (Err none.Quiet) bytes rest old between new first ends = λ up. stays_through (with_receipt Quiet) between new (stays_receipt Quiet) ends.1 (first up)
+keeps_end (Err none.Closed) bytes rest old between new first ends = λ up. stays_through (with_receipt Closed) between new (stays_receipt Closed) ends.1 (first up)
+keeps_end (Err none.RecvFailed) bytes rest old between new first ends = tt
+keeps_end (Err (none.BadFrame fault)) bytes rest old between new first ends = λ up. stays_same between new ends.1 (first up)
 
 keeps_one : (job : Job) (put : Output) (came : Input) (old new : World) → IsDone job put came old new → Keeps came old.links new.links
 keeps_one job output.Goal (input.Goal goal) old new done = stays_same old.links new.links (same_links _ new done)
@@ -88,10 +88,10 @@ keeps_one job (output.Send request clock) input.SentAll old new done =
 keeps_one job (output.Send request clock) input.SendFailed old new done =
     stays_through (with_bytes _) old.links new.links (stays_bytes _) done.1.2
 keeps_one job output.Receive came old new done =
-    let waits = done.1.waits in
+    let wait = done.1.wait in
     let P : Input → Type 0 = λ i. Keeps i old.links new.links in
-    subst P (sym done.1.is) (keeps_come done.1.result _ new.unread old.links waits.between new.links
-    (stays_through (with_pieces waits.pieces) old.links waits.between (stays_pieces waits.pieces) waits.receives.links) waits.comes)
+    subst P (sym done.1.is) (keeps_end done.1.result _ new.unread old.links wait.between new.links
+    (stays_through (with_pieces wait.pieces) old.links wait.between (stays_pieces wait.pieces) wait.receives.links) wait.ends)
 keeps_one job output.HangUp input.HungUp old new done = tt
 keeps_one job (output.Rest ms) input.Rested old new done = stays_same old.links new.links (same_links old new done)
 keeps_one job output.Nothing input.Go old new done = stays_same old.links new.links (same_links old new done)

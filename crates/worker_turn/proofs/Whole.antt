@@ -7,7 +7,7 @@ use Rattle.mbap_frames.specs.declared.frame.Frame.{Frame}
 use Rattle.mbap_frames.specs.Frame.{frame_spelling}
 use Rattle.frame_inbox.specs.declared.inbox.NoFrame.{NoFrame}
 use Rattle.frame_inbox.specs.declared.inbox.NoFrame.TheVariants as none
-use Rattle.frame_inbox.specs.Waiting.{with_pieces, Comes}
+use Rattle.frame_inbox.specs.Waiting.{with_pieces, EndsWait}
 use Rattle.inverter_worker.specs.declared.job.Job.{Job}
 use Rattle.inverter_worker.specs.declared.input.Input.{Input}
 use Rattle.inverter_worker.specs.declared.input.Input.TheVariants as input
@@ -45,19 +45,19 @@ since_more a b old mid new first last = λ links link told up.
     let early = first late.0 late.1 late.2 late.3 in
     (early.0, early.1, early.2, early.3, late.4 ∙ ap (λ (t : List ℕ). t ++ b) early.4 ∙ append_assoc early.1.sent a b)
 
-since_come : (result : Result Frame NoFrame) (bytes rest : List ℕ) (old new : Option Links) → Comes result bytes rest old new → IsSentSince [] old new
-since_come (Ok frame) bytes rest old new comes = since_none old new comes.2
-since_come (Err none.Quiet) bytes rest old new comes = since (with_receipt Quiet) [] [] old new (adds_receipt Quiet) comes.1
-since_come (Err none.Closed) bytes rest old new comes = since (with_receipt Closed) [] [] old new (adds_receipt Closed) comes.1
-since_come (Err none.RecvFailed) bytes rest old new comes = since with_failure [] [] old new (adds_failure [] []) comes.1
-since_come (Err (none.BadFrame fault)) bytes rest old new comes = since_none old new comes.1
+since_end : (result : Result Frame NoFrame) (bytes rest : List ℕ) (old new : Option Links) → EndsWait result bytes rest old new → IsSentSince [] old new
+since_end (Ok frame) bytes rest old new ends = since_none old new ends.2
+since_end (Err none.Quiet) bytes rest old new ends = since (with_receipt Quiet) [] [] old new (adds_receipt Quiet) ends.1
+since_end (Err none.Closed) bytes rest old new ends = since (with_receipt Closed) [] [] old new (adds_receipt Closed) ends.1
+since_end (Err none.RecvFailed) bytes rest old new ends = since with_failure [] [] old new (adds_failure [] []) ends.1
+since_end (Err (none.BadFrame fault)) bytes rest old new ends = since_none old new ends.1
 
 since_wait : (job : Job) (came : Input) (old new : World) → IsDone job output.Receive came old new → IsSentSince [] old.links new.links
 since_wait job came old new done =
-    let waits = done.1.waits in
-    since_more [] [] old.links waits.between new.links
-    (since (with_pieces waits.pieces) (concat waits.pieces) [] old.links waits.between (adds_pieces waits.pieces) waits.receives.links)
-    (since_come done.1.result _ new.unread waits.between new.links waits.comes)
+    let wait = done.1.wait in
+    since_more [] [] old.links wait.between new.links
+    (since (with_pieces wait.pieces) (concat wait.pieces) [] old.links wait.between (adds_pieces wait.pieces) wait.receives.links)
+    (since_end done.1.result _ new.unread wait.between new.links wait.ends)
 
 since_waits : (job : Job) (request : Asked) (put : Output) (passed : List RunStep) (old new : World) → put ≡ output.Receive → AllByRecursion (IsPassedOver request) passed
     → AreDone job put passed old new → IsSentSince [] old.links new.links

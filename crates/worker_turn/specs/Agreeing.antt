@@ -22,7 +22,8 @@ made_by (output.Call call) (input.Reply reply) = record { call = call; reply = r
 made_by (output.Release write at) (input.Reply reply) = record { call = back_of write at; reply = reply } ∷ []
 made_by output came = []
 
--- the calls of a run with their replies, in order, each at its own moment: of its first output, and of its steps
+-- the calls of a run with their replies, in order, each at its own moment: of its first output, and of its
+-- steps
 abbrev pub calls_made : Output → List RunStep → List Entry
 calls_made output [] = []
 calls_made output (next ∷ later) = made_by output next.input ++ calls_made next.output later
@@ -48,7 +49,8 @@ failure_in came = []
 abbrev pub failures : List RunStep → List Input
 failures run = flat_map (λ one. failure_in one.input) run
 
--- The bytes that were received on the link that is up are those of these frames, and then those that are unread.
+-- The bytes that were received on the link that is up are those of these frames, and then those that are
+-- unread.
 abbrev pub IsRead : List Frame → (unread : List ℕ) → Option Links → Type 0
 IsRead frames unread told = (links : Links) (link : Link) → told ≡ Some links → links.current ≡ Some link
     → received_bytes link ≡ frames_spelling frames ++ unread
@@ -86,8 +88,8 @@ dialed job run = flat_map (λ one. dialed_in job one.input) run
 abbrev pub IsSent : List ℕ → Option Links → Type 0
 IsSent bytes told = (links : Links) (link : Link) → told ≡ Some links → links.current ≡ Some link → link.sent ≡ bytes
 
--- The bytes sent on the link that is up, before and after an output that was done with this input: a new link has
--- none; a request that went out whole is its frame, and of one whose send failed there is a part.
+-- The bytes sent on the link that is up, before and after an output that was done with this input: a new link
+-- has none; a request that went out whole is its frame, and of one whose send failed there is a part.
 abbrev pub Sends : Job → Output → Input → (before after : List ℕ) → Type 0
 Sends job output.Dial input.Dialed before after = after ≡ []
 Sends job (output.Send request clock) input.SentAll before after =

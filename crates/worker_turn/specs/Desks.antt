@@ -10,8 +10,8 @@ pub record RollsNone (old new : DeskState) : Type 0 where
   pub inverters : new.inverters ≡ old.inverters
   pub rolls : new.rolls ≡ old.rolls
 
--- A goal that came is one that the desk may have told after so many entries of its own, at a place from its front then
--- to its front now. Where the book was full, the desk was full.
+-- A goal that came is one that the desk may have told after so many entries of its own, at a place from its
+-- front then to its front now. Where the book was full, the desk was full.
 abbrev pub IsTold : DeskTests → (inverter : ℕ) → (made begun now : ℕ) → Input → Type 0
 IsTold tests inverter made begun now (input.Goal goal) =
     (place : ℕ) × (begun ≤ place) × (place ≤ now) × tests.may_tell made place inverter goal

@@ -1,5 +1,5 @@
--- What it is to do an output, and which input comes of it: what the entries, the links, the clock and the unread
--- bytes are before and after.
+-- What it is to do an output, and which input comes of it: what the entries, the links, the clock and the
+-- unread bytes are before and after.
 use Rattle.std.specs.Prelude.{◌≡◌, ℕ, ◌≤◌, List, [], ◌∷◌, ◌++◌, Option, Result, Ok, Err, option_map}
 use Rattle.world_traits.specs.Causes.{Rose}
 use Rattle.world_traits.specs.Clocks.{moment_max}
@@ -16,7 +16,7 @@ use Rattle.mbap_frames.specs.Frame.{frame_spelling}
 use Rattle.readback.specs.Frames.{write_frame, read_frame}
 use Rattle.frame_inbox.specs.declared.inbox.NoFrame.{NoFrame}
 use Rattle.frame_inbox.specs.declared.inbox.NoFrame.TheVariants as none
-use Rattle.frame_inbox.specs.Waiting.{Waits, Counts}
+use Rattle.frame_inbox.specs.Waiting.{IsWait, Counts}
 use Rattle.inverter_worker.specs.declared.job.Job.{Job}
 use Rattle.inverter_worker.specs.declared.input.Input.{Input}
 use Rattle.inverter_worker.specs.declared.input.Input.TheVariants as input
@@ -26,8 +26,9 @@ use Rattle.inverter_worker.specs.declared.output.Asked.{Asked}
 use Rattle.inverter_worker.specs.declared.output.Asked.TheVariants as asked
 use Rattle.inverter_worker.specs.Runs.{RunStep}
 
--- What a worker reaches: the entries that were made through its desk, the record of its dialer's links where that is told, the dialer's count of faults,
--- what was read of the clock in this turn, and the bytes that came on the link and weren't handed out as frames.
+-- What a worker reaches: the entries that were made through its desk, the record of its dialer's links where
+-- that is told, the dialer's count of faults, what was read of the clock in this turn, and the bytes that
+-- came on the link and weren't handed out as frames.
 pub record World : Type 0 where
   pub made : List Entry
   pub links : Option Links
@@ -53,19 +54,19 @@ pub record IsEntered (call : Call) (reply : Reply) (old new : World) : Type 0 wh
   pub is : new ≡ record old { made = old.made ++ record { call = at_moment at call; reply = reply } ∷ [] }
 
 -- what came of a wait for a frame, as an input
-abbrev pub arrival : Result Frame NoFrame → Input
-arrival (Ok frame) = input.Frame frame
-arrival (Err none.Quiet) = input.Quiet
-arrival (Err none.Closed) = input.Closed
-arrival (Err none.RecvFailed) = input.RecvFailed
-arrival (Err (none.BadFrame fault)) = input.BadFrame
+abbrev pub input_of_wait : Result Frame NoFrame → Input
+input_of_wait (Ok frame) = input.Frame frame
+input_of_wait (Err none.Quiet) = input.Quiet
+input_of_wait (Err none.Closed) = input.Closed
+input_of_wait (Err none.RecvFailed) = input.RecvFailed
+input_of_wait (Err (none.BadFrame fault)) = input.BadFrame
 
--- A wait for a frame: pieces were received, and behind them a frame stood first in the unread bytes, or a fault; or
--- the unread bytes were still less than a frame, and the next receive gave none.
-pub record IsCome (came : Input) (old new : World) : Type 0 where
+-- A wait for a frame: pieces were received, and behind them a frame stood first in the unread bytes, or a
+-- fault; or the unread bytes were still less than a frame, and the next receive gave none.
+pub record IsWaited (came : Input) (old new : World) : Type 0 where
   pub result : Result Frame NoFrame
-  pub is : came ≡ arrival result
-  pub waits : Waits result old.unread new.unread old.links new.links
+  pub is : came ≡ input_of_wait result
+  pub wait : IsWait result old.unread new.unread old.links new.links
   pub counts : Counts result old.faults new.faults
 
 -- An output was done, and this input came of it. Behind a turn the next one begins.
@@ -87,7 +88,7 @@ IsDone job (output.Send request clock) input.SendFailed old new =
     (new ≡ record old { links = new.links; faults = new.faults })
     × IsCutShort (frame_spelling (request_frame job request)) old.links new.links × Rose old.faults new.faults
 IsDone job output.Receive came old new =
-    (new ≡ record old { links = new.links; faults = new.faults; unread = new.unread }) × IsCome came old new
+    (new ≡ record old { links = new.links; faults = new.faults; unread = new.unread }) × IsWaited came old new
 IsDone job output.HangUp input.HungUp old new =
     new ≡ record old { links = option_map after_hang_up old.links; unread = [] }
 IsDone job (output.Rest ms) input.Rested old new = new ≡ old
@@ -95,8 +96,8 @@ IsDone job output.Nothing input.Go old new = new ≡ old
 IsDone job output.Nothing input.NoRoom old new = new ≡ old
 IsDone job output came old new = ⊥
 
--- An output was done, and then those of these steps, each with the input of the next step. What the last one puts out
--- is not done yet.
+-- An output was done, and then those of these steps, each with the input of the next step. What the last one
+-- puts out is not done yet.
 abbrev pub AreDone : Job → Output → List RunStep → World → World → Type 0
 AreDone job output [] old new = new ≡ old
 AreDone job output (next ∷ later) old new =

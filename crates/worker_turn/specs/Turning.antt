@@ -28,7 +28,8 @@ abbrev pub IsFresh : Output → World → World → Type 0
 IsFresh output.Goal old new = new ≡ old
 IsFresh output old new = Unit {0}
 
--- These steps followed on an output, from a state to a state, and what they put out was done, but for the last.
+-- These steps followed on an output, from a state to a state, and what they put out was done, but for the
+-- last.
 pub record Follows (tests : DeskTests) (front front_now : ℕ) (job : Job) (begun : State) (first : Output)
     (later : List RunStep) (state : State) (last : Output) (logged log_now : List Sent) (old new : World)
     : Type 0 where

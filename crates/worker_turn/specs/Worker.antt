@@ -16,8 +16,8 @@ use Rattle.worker_turn.specs.declared.worker.Turned.TheVariants as turned
 use Rattle.worker_turn.specs.Doing.{World, AreDone}
 use Rattle.worker_turn.specs.Desks.{IsTold}
 
--- a worker: its job, where it stands, the requests that it sent so far, and the bytes that came on its link and
--- weren't handed out as frames
+-- a worker: its job, where it stands, the requests that it sent so far, and the bytes that came on its link
+-- and weren't handed out as frames
 pub record WorkerRecord : Type 0 where
   pub job : Job
   pub state : State
@@ -43,9 +43,9 @@ Answers (turned.Over end) step = step ≡ Over end
 abbrev pub IsBegin : Input → Type 0
 IsBegin came = (came ≡ input.Go) ⊎ (came ≡ input.NoRoom)
 
--- One turn: a run of the table from the worker's state to its next, whose outputs were done, and whose requests are
--- those that the log has gained. The readings of the clock are the times that came, and the desk, whose front went from
--- one to another, passes the goals and the full book that came.
+-- One turn: a run of the table from the worker's state to its next, whose outputs were done, and whose
+-- requests are those that the log has gained. The readings of the clock are the times that came, and the
+-- desk, whose front went from one to another, passes the goals and the full book that came.
 pub record IsTurn (tests : DeskTests) (front front_now : ℕ) (before after : WorkerRecord) (old new : World)
     : Type 0 where
   pub first : RunStep

@@ -14,7 +14,7 @@ use Rattle.commission_run.specs.Lines.{found_text}
 use Rattle.stream_io.specs.Streams.{AppendsFront}
 use Rattle.commission_run.specs.Course.{target_of}
 use Rattle.commission_run.specs.Ends.{Outcome}
-use Rattle.frame_inbox.specs.Waiting.{Arrives}
+use Rattle.frame_inbox.specs.Waiting.{IsAdvance}
 use Rattle.commission_run.specs.Arriving.{IsHandled, gained_text}
 use Rattle.commission_run.specs.Going.{IsGoing}
 use Rattle.commission_run.proofs.Linked.{up_at_first, up_sends, up_receives}
@@ -78,15 +78,15 @@ loop-commission-preserved g c =
     let target = target_of c.args.job in
     let now = g.N.Dialer.links c.loop-commission.dialer in
     let next = g.N.Dialer.links c.advance.new.dialer in
-    let arrives = subst (λ (f : Option Frame). Arrives (Ok f) c.loop-commission.inbox c.advance.new.inbox now next) c.in_default.is c.in_ok-frame.ensures.arrives in
-    let link = link_with_receipt (Bytes arrives.1) course.1 in
+    let advance = subst (λ (f : Option Frame). IsAdvance (Ok f) c.loop-commission.inbox c.advance.new.inbox now next) c.in_default.is c.in_ok-frame.ensures.advance in
+    let link = link_with_receipt (Bytes advance.1) course.1 in
     record {
       course = (
         course.0,
         link,
-        subst (λ (held : List ℕ). IsGoing target c.loop-commission.commission held course.0 link) (sym arrives.3)
-            (with_piece target c.loop-commission.commission c.loop-commission.inbox course.0 course.1 arrives.1 course.2 asks arrives.0),
-        up_receives (g.N.Dialer.links c.args.dialer.now) now next course.1 (Bytes arrives.1) course.3 arrives.4,
+        subst (λ (held : List ℕ). IsGoing target c.loop-commission.commission held course.0 link) (sym advance.3)
+            (with_piece target c.loop-commission.commission c.loop-commission.inbox course.0 course.1 advance.1 course.2 asks advance.0),
+        up_receives (g.N.Dialer.links c.args.dialer.now) now next course.1 (Bytes advance.1) course.3 advance.4,
       );
       written = c.loop-commission.invariant.written;
       dialer_kept = c.in_ok-frame.ensures.cause.kept ∙ c.loop-commission.invariant.dialer_kept;
@@ -108,8 +108,8 @@ loop-commission-preserved-in-Continue-branch-4 g c =
     let standing = c.loop-commission.commission in
     let asks : IsSome (asked standing) = ap is_some (sym c.next.ensures.request) ∙ sym c.loop-commission-test.ensures in
     let course = c.loop-commission.invariant.course in
-    let arrives = subst (λ (f : Option Frame). Arrives (Ok f) c.loop-commission.inbox c.advance.new.inbox (g.N.Dialer.links c.loop-commission.dialer)
-    (g.N.Dialer.links c.advance.new.dialer)) c.in-Some.is c.in_ok-frame.ensures.arrives in
+    let advance = subst (λ (f : Option Frame). IsAdvance (Ok f) c.loop-commission.inbox c.advance.new.inbox (g.N.Dialer.links c.loop-commission.dialer)
+    (g.N.Dialer.links c.advance.new.dialer)) c.in-Some.is c.in_ok-frame.ensures.advance in
     let handled = c.in_ok-take.ensures.handled in
     let bytes = frames_spelling (request_by standing c.in-Some.frame) in
     record {
@@ -117,9 +117,9 @@ loop-commission-preserved-in-Continue-branch-4 g c =
         course.0 ++ c.in-Some.frame ∷ [],
         link_with_bytes bytes course.1,
         subst (λ (s : Standing). IsGoing target s c.advance.new.inbox (course.0 ++ c.in-Some.frame ∷ []) (link_with_bytes bytes course.1)) (sym c.in_ok-take.ensures.step)
-            (with_frame target standing c.loop-commission.inbox c.advance.new.inbox course.0 c.in-Some.frame handled.0 course.1 course.2 asks arrives.0 arrives.1 handled.1),
+            (with_frame target standing c.loop-commission.inbox c.advance.new.inbox course.0 c.in-Some.frame handled.0 course.1 course.2 asks advance.0 advance.1 handled.1),
         up_sends (g.N.Dialer.links c.args.dialer.now) (g.N.Dialer.links c.advance.new.dialer) (g.N.Dialer.links c.take.new.dialer) course.1 bytes
-            (arrives.2 ∙ course.3) handled.3,
+            (advance.2 ∙ course.3) handled.3,
       );
       written = subst (λ (s : Standing). Appends (g.O.Sink.taken c.args.out.now) (g.O.Sink.taken c.take.new.out) (found_text (found_at s.stage))) (sym c.in_ok-take.ensures.step)
           (written-more standing c.in-Some.frame (g.O.Sink.taken c.args.out.now) (g.O.Sink.taken c.loop-commission.out) (g.O.Sink.taken c.take.new.out) c.loop-commission.invariant.written
@@ -143,15 +143,15 @@ returns-in_err-take-clause-course g c =
     let old = g.O.Sink.taken c.args.out.now in
     let mid = g.O.Sink.taken c.loop-commission.out in
     let new = g.O.Sink.taken c.take.new.out in
-    let arrives = subst (λ (f : Option Frame). Arrives (Ok f) c.loop-commission.inbox c.advance.new.inbox (g.N.Dialer.links c.loop-commission.dialer) now)
-    c.in-Some.is c.in_ok-frame.ensures.arrives in
+    let advance = subst (λ (f : Option Frame). IsAdvance (Ok f) c.loop-commission.inbox c.advance.new.inbox (g.N.Dialer.links c.loop-commission.dialer) now)
+    c.in-Some.is c.in_ok-frame.ensures.advance in
     let handled = subst (λ (s : Standing). IsHandled (Err c.in_err-take.field-0.0) standing c.in-Some.frame now next (gained_text (found_at standing.stage) (found_at s.stage)) mid new)
     c.in_err-take.ensures.step c.in_err-take.ensures.handled in
     let p = err_from_is_err_and c.from_residual-in_err-take.result c.from_residual-in_err-take.ensures.1 in
     let is : c.from_residual-in_err-take.result ≡ Err c.in_err-take.field-0.0 = p.1 ∙ ap (λ (e : Stop). Err e) p.2 in
     subst (λ (o : Outcome). Ended target c.args.job.inverter o told next old new) (sym is)
     (stopped_by_frame c.in_err-take.field-0.0 target c.args.job.inverter standing c.loop-commission.inbox c.advance.new.inbox course.0 c.in-Some.frame course.1
-    told now next old mid new course.2 (arrives.2 ∙ course.3) asks c.loop-commission.invariant.written arrives.0 arrives.1 handled)
+    told now next old mid new course.2 (advance.2 ∙ course.3) asks c.loop-commission.invariant.written advance.0 advance.1 handled)
 
 pub returns-clause-course : goal.returns-clause-course
 returns-clause-course g c =

@@ -12,8 +12,8 @@ use Rattle.mbap_frames.specs.Stream.{IsUnfinished, HasFault}
 use Rattle.frame_inbox.proofs.Taking.{taken_off, kept_on, kept_over}
 use Rattle.frame_inbox.proofs.inbox.Inbox.advance.Goals as goal
 
-pub returns-in-One-clause-arrives : goal.returns-in-One-clause-arrives
-returns-in-One-clause-arrives g c =
+pub returns-in-One-clause-advance : goal.returns-in-One-clause-advance
+returns-in-One-clause-advance g c =
     let inbox = c.self.inside in
     let fed = c.feed-fed.result in
     let step = subst (λ (t : List ℕ). IsFed inbox.frames t fed c.feed-fed.new.self) c.part.ensures c.feed-fed.ensures.step in
@@ -24,8 +24,8 @@ returns-in-One-clause-arrives g c =
     × (g.N.Dialer.links c.args.dialer.now ≡ g.N.Dialer.links c.args.dialer.now)) (sym c.in-One.frame-is)
     (off.0, sym c.self.view_is ∙ off.1, refl)
 
-pub returns-in_err-count-in-More-clause-arrives : goal.returns-in_err-count-in-More-clause-arrives
-returns-in_err-count-in-More-clause-arrives g c =
+pub returns-in_err-count-in-More-clause-advance : goal.returns-in_err-count-in-More-clause-advance
+returns-in_err-count-in-More-clause-advance g c =
     let inbox = c.self.inside in
     let why = c.in_err-count-in-More.field-0.0 in
     let p = err_from_is_err_and c.from_residual.result c.from_residual.ensures.1 in
@@ -38,8 +38,8 @@ returns-in_err-count-in-More-clause-arrives g c =
     c.self.invariant.0 (omega arith) step in
     rw is (by_receive why c.args.self.now _ _ _ less c.in_err-count-in-More.ensures.none (stay ∙ c.self.view_is))
 
-pub returns-in-Bad-clause-arrives : goal.returns-in-Bad-clause-arrives
-returns-in-Bad-clause-arrives g c =
+pub returns-in-Bad-clause-advance : goal.returns-in-Bad-clause-advance
+returns-in-Bad-clause-advance g c =
     let inbox = c.self.inside in
     let fed = c.feed-fed.result in
     let bytes = ap (λ (t : List ℕ). inbox.frames ++ t) c.part.ensures ∙ c.self.view_is in
