@@ -27,7 +27,8 @@ fn run_task<S: Source, O: Sink, N: Dialer, K: Clock>(
     dialer: &mut N,
     clock: &K,
 ) -> Ended
-    ensures ends { (read : List ℕ) × IsTaskEnd (K.may_give clock.now) task read (change S.left S.faults site.old site.new)
+    ensures ends { (read : List ℕ) × IsTaskEnd (K.may_give clock.now) task read
+        (change S.left S.faults site.old site.new)
         (change O.taken O.faults out.old out.new) (dialing N.links N.faults dialer.old dialer.new) result }
     ensures due { IsTaskDue task (change S.left S.faults site.old site.new) (change O.taken O.faults out.old out.new)
         (dialing N.links N.faults dialer.old dialer.new) result }
@@ -50,7 +51,8 @@ fn run_with_first<S: Source, O: Sink, N: Dialer, K: Clock>(
     clock: &K,
 ) -> Ended
     requires { length dialers.old.items ≡ 64 }
-    ensures ends { (read : List ℕ) × IsTaskEnd (K.may_give clock.now) task read (change S.left S.faults site.old site.new)
+    ensures ends { (read : List ℕ) × IsTaskEnd (K.may_give clock.now) task read
+        (change S.left S.faults site.old site.new)
         (change O.taken O.faults out.old out.new) (first_dialing N.links N.faults dialers.old.items dialers.new.items) result }
     ensures due { IsTaskDue task (change S.left S.faults site.old site.new) (change O.taken O.faults out.old out.new)
         (first_dialing N.links N.faults dialers.old.items dialers.new.items) result }
@@ -122,7 +124,8 @@ pub fn live<
         (change S.left S.faults site.old site.new) (first_dialing N.links N.faults dialers.old.items dialers.new.items) result }
     ensures serve_due { (inverter turns : ℕ) → Ask (map string_bytes words.now.items) (Task.Serve inverter turns)
         → IsServeDue inverter result (change S.left S.faults site.old site.new) }
-    ensures serve_writes_nothing { (inverter turns : ℕ) → Ask (map string_bytes words.now.items) (Task.Serve inverter turns)
+    ensures serve_writes_nothing { (inverter turns : ℕ) → Ask (map string_bytes words.now.items)
+        (Task.Serve inverter turns)
         → out.new ≡ out.old }
 {
     match task_of(words) {

@@ -106,15 +106,19 @@ fn follow_held<D: Desk, O: Sink, K: Clock>(
     requires of_desk { lines.old.inverters ≡ (D.state desk.old).inverters }
     requires room { lines.old.number + 1 < 2 ^ 32 }
     ensures goes_on { OnOk result ((begun : DeskState) (told : Option (List ℕ)) (read : List ℕ) → IsTaking
-        (tests_of (K.may_give clock.now) (D.tests desk.old)) begun (D.state desk.old) told (O.taken out.old) read lines.old.number
+        (tests_of (K.may_give clock.now) (D.tests desk.old)) begun (D.state desk.old) told
+        (O.taken out.old) read lines.old.number
         lines.old.held.items → IsTaking
-        (tests_of (K.may_give clock.now) (D.tests desk.new)) begun (D.state desk.new) told (O.taken out.new) (read ++ 10 ∷ [])
+        (tests_of (K.may_give clock.now) (D.tests desk.new)) begun (D.state desk.new) told (O.taken out.new)
+        (read ++ 10 ∷ [])
         lines.new.number lines.new.held.items) }
     ensures ends { IfErr result (λ end. (begun : DeskState) (told : Option (List ℕ)) (read behind : List ℕ)
         (left : Option (List ℕ)) → IsTaking
-        (tests_of (K.may_give clock.now) (D.tests desk.old)) begun (D.state desk.old) told (O.taken out.old) read lines.old.number
+        (tests_of (K.may_give clock.now) (D.tests desk.old)) begun (D.state desk.old) told
+        (O.taken out.old) read lines.old.number
         lines.old.held.items → IsHeld end
-        (tests_of (K.may_give clock.now) (D.tests desk.new)) (D.tests desk.new).was_full begun (D.state desk.new) (read ++ 10 ∷ behind) left told
+        (tests_of (K.may_give clock.now) (D.tests desk.new)) (D.tests desk.new).was_full begun
+        (D.state desk.new) (read ++ 10 ∷ behind) left told
         (O.taken out.new)) }
     ensures desk { OnOk result ((D.state desk.new).inverters ≡ (D.state desk.old).inverters) }
     ensures empty { OnOk result (lines.new.held.items ≡ []) }
@@ -146,15 +150,19 @@ pub(crate) fn take_piece<D: Desk, O: Sink, K: Clock>(
     requires of_desk { lines.old.inverters ≡ (D.state desk.old).inverters }
     requires room { lines.old.number + length piece.now < 2 ^ 32 }
     ensures goes_on { OnOk result ((begun : DeskState) (told : Option (List ℕ)) (read : List ℕ) → IsTaking
-        (tests_of (K.may_give clock.now) (D.tests desk.old)) begun (D.state desk.old) told (O.taken out.old) read lines.old.number
+        (tests_of (K.may_give clock.now) (D.tests desk.old)) begun (D.state desk.old) told
+        (O.taken out.old) read lines.old.number
         lines.old.held.items → IsTaking
-        (tests_of (K.may_give clock.now) (D.tests desk.new)) begun (D.state desk.new) told (O.taken out.new) (read ++ piece.now)
+        (tests_of (K.may_give clock.now) (D.tests desk.new)) begun (D.state desk.new) told (O.taken out.new)
+        (read ++ piece.now)
         lines.new.number lines.new.held.items) }
     ensures ends { IfErr result (λ end. (begun : DeskState) (told : Option (List ℕ)) (read : List ℕ)
         (left : Option (List ℕ)) → IsTaking
-        (tests_of (K.may_give clock.now) (D.tests desk.old)) begun (D.state desk.old) told (O.taken out.old) read lines.old.number
+        (tests_of (K.may_give clock.now) (D.tests desk.old)) begun (D.state desk.old) told
+        (O.taken out.old) read lines.old.number
         lines.old.held.items → IsHeld end
-        (tests_of (K.may_give clock.now) (D.tests desk.new)) (D.tests desk.new).was_full begun (D.state desk.new) (read ++ piece.now) left told
+        (tests_of (K.may_give clock.now) (D.tests desk.new)) (D.tests desk.new).was_full begun
+        (D.state desk.new) (read ++ piece.now) left told
         (O.taken out.new)) }
     ensures desk { OnOk result ((D.state desk.new).inverters ≡ (D.state desk.old).inverters) }
     ensures number { lines.new.number ≤ lines.old.number + length piece.now }
@@ -187,9 +195,11 @@ pub(crate) fn take_rest<D: Desk, O: Sink, K: Clock>(
     requires room { lines.now.number + 1 < 2 ^ 32 }
     ensures ended { (begun : DeskState) (told : Option (List ℕ)) (read : List ℕ) (left : Option (List ℕ))
         → IsOver read left → IsTaking
-        (tests_of (K.may_give clock.now) (D.tests desk.old)) begun (D.state desk.old) told (O.taken out.old) read lines.now.number
+        (tests_of (K.may_give clock.now) (D.tests desk.old)) begun (D.state desk.old) told
+        (O.taken out.old) read lines.now.number
         lines.now.held.items → IsHeld (end_of result)
-        (tests_of (K.may_give clock.now) (D.tests desk.new)) (D.tests desk.new).was_full begun (D.state desk.new) read left told
+        (tests_of (K.may_give clock.now) (D.tests desk.new)) (D.tests desk.new).was_full begun
+        (D.state desk.new) read left told
         (O.taken out.new) }
     ensures last { TestsLast (D.tests desk.old) (D.tests desk.new) }
     ensures kept { D.kept desk.new ≡ D.kept desk.old }

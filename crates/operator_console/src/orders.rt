@@ -30,7 +30,8 @@ pub(crate) fn follow_order<D: Desk, O: Sink, K: Clock>(
     requires of_desk { inverters ≡ (D.state desk.old).inverters }
     requires in_range { IsInRange inverters order }
     ensures handled { (number : ℕ) (line : List ℕ) → IsOrder inverters line order
-        → IsHandled result (tests_of (K.may_give clock.now) (D.tests desk.new)) (D.tests desk.new).was_full number line (D.state desk.old) (D.state desk.new)
+        → IsHandled result (tests_of (K.may_give clock.now) (D.tests desk.new))
+        (D.tests desk.new).was_full number line (D.state desk.old) (D.state desk.new)
         (O.taken out.old) (O.taken out.new) }
     ensures last { TestsLast (D.tests desk.old) (D.tests desk.new) }
     ensures kept { D.kept desk.new ≡ D.kept desk.old }

@@ -85,7 +85,8 @@ fn follow<D: Desk, C: Source, O: Sink, K: Clock>(
     requires few { inverters ≤ 64 }
     requires of_desk { inverters ≡ (D.state desk.old).inverters }
     ensures held { (read : List ℕ) × Consumes (C.left input.old) (C.left input.new) read × (length read ≤ 1048576)
-        × IsHeld result (tests_of (K.may_give clock.now) (D.tests desk.new)) (D.tests desk.new).was_full (D.state desk.old) (D.state desk.new) read (C.left input.new)
+        × IsHeld result (tests_of (K.may_give clock.now) (D.tests desk.new)) (D.tests desk.new).was_full
+        (D.state desk.old) (D.state desk.new) read (C.left input.new)
         (O.taken out.old) (O.taken out.new) }
     ensures input_faults { HasCause (C.faults input.old) (C.faults input.new) (at_input result) }
     ensures output_faults { HasCause (O.faults out.old) (O.faults out.new) (at_output result) }
@@ -129,11 +130,13 @@ fn read_lines<D: Desk, C: Source, O: Sink, K: Clock>(
     requires held { lines.old.held.items ≡ [] }
     ensures over { OnOk result ((read : List ℕ) × Consumes (C.left input.old) (C.left input.new) read
         × (length read ≤ 1048576) × IsOver read (C.left input.new) × IsTaking
-        (tests_of (K.may_give clock.now) (D.tests desk.new)) (D.state desk.old) (D.state desk.new) (O.taken out.old) (O.taken out.new) read
+        (tests_of (K.may_give clock.now) (D.tests desk.new)) (D.state desk.old) (D.state desk.new)
+        (O.taken out.old) (O.taken out.new) read
         lines.new.number lines.new.held.items) }
     ensures ends { IfErr result (λ end. (read : List ℕ) × Consumes (C.left input.old) (C.left input.new) read
         × (length read ≤ 1048576) × IsHeld end
-        (tests_of (K.may_give clock.now) (D.tests desk.new)) (D.tests desk.new).was_full (D.state desk.old) (D.state desk.new) read (C.left input.new)
+        (tests_of (K.may_give clock.now) (D.tests desk.new)) (D.tests desk.new).was_full (D.state desk.old)
+        (D.state desk.new) read (C.left input.new)
         (O.taken out.old) (O.taken out.new)) }
     ensures desk { OnOk result ((D.state desk.new).inverters ≡ (D.state desk.old).inverters) }
     ensures number { lines.new.number ≤ 1048576 }

@@ -21,7 +21,7 @@ use Rattle.plant_desk.specs.declared.deed.Deed.TheVariants.{Rolled}
 use Rattle.plant_desk.specs.Deeds.{first_life, life_of, Placed, entries_by}
 use Rattle.plant_desk.specs.Passes.{DeskRecord, PassRecord, first_place, entries, ComesFrom}
 use Rattle.plant_desk.specs.DeskOf.{MayTell, books_of, WasFull, Ended, WasFullLife}
-use Rattle.plant_desk.specs.Standing.{places, StandsAt, MadeOnce, TellsOf, HasFullBook, Stands, IsMadeUp}
+use Rattle.plant_desk.specs.Standing.{places, StandsAt, MadeOnce, TellsOf, IsFullBookOf, Stands, IsMadeUp}
 use Rattle.plant_desk.proofs.Passes.{calls_in, site-after, stands_in}
 use Rattle.plant_desk.proofs.Later.{entries_in, joined-after, places-from, goals_after, lives_after, with_more, book-grows}
 use Rattle.plant_desk.proofs.Placing.{place_of, At, length-entries_in, entries_at, places-rise, author_at}
@@ -153,7 +153,7 @@ module _ (desk : DeskRecord) (passes : List PassRecord) (life : Life) (comes : C
           told = subst (λ (b : BookRecord). IsGoalOf (with_entries b (take place b.entries)) inverter goal) book told.told;
         }
 
-    full_stands : (was : WasFull pass) → HasFullBook life was.book
+    full_stands : (was : WasFull pass) → IsFullBookOf life was.book
     full_stands was =
         let book = was.book in
         let grown = book-grows book pass.desk.book pass.seen later was.there in

@@ -46,7 +46,7 @@ pub record TellsOf (life : Life) (place inverter : ℕ) (goal : Goal) : Type 0 w
   pub told : IsGoalOf (first_joined life place) inverter goal
 
 -- the book is one of the life's, and has its room of calls
-pub record HasFullBook (life : Life) (book : PartRecord) : Type 0 where
+pub record IsFullBookOf (life : Life) (book : PartRecord) : Type 0 where
   pub there : Contains (books_of life) book
   pub full : length book.entries ≡ book.site.room
 
@@ -60,7 +60,7 @@ pub record Stands (desk : DeskRecord) (life : Life) (pass : PassRecord) : Type 0
   pub rise : IsStrictlyIncreasing (places pass)
   pub goals : (count place inverter : ℕ) (goal : Goal) → MayTell pass count place inverter goal
       → TellsOf life place inverter goal
-  pub full : (was : WasFull pass) → HasFullBook life was.book
+  pub full : (was : WasFull pass) → IsFullBookOf life was.book
   pub rolls : (number : ℕ) (book : PartRecord) → Ended pass number book → Contains life.ended book
   pub full_life : (calls : ℕ) → WasFullLife pass calls → calls ≤ length (joined_book life).entries
 

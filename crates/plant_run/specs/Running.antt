@@ -42,7 +42,8 @@ pub record IsOfOne (workers : List WorkerRecord) (entry : Entry) : Type 0 where
 -- What the worker at each place did with the dialer at that place, while a book grew from one to another. Where one was
 -- told that a book is full, one was.
 abbrev pub EachWorks : {N : Type 0} → (links : N → Option Links) → (faults : N → ℕ) → (may_give : ℕ → Bool)
-    → (opened book : BookRecord) → (full : Type 0) → (workers workers_now : List WorkerRecord) → (dialers dialers_now : List N) → Type 0
+    → (opened book : BookRecord) → (full : Type 0) → (workers workers_now : List WorkerRecord)
+    → (dialers dialers_now : List N) → Type 0
 EachWorks {N} links faults may_give opened book full workers workers_now dialers dialers_now =
     (place : ℕ) (before after : WorkerRecord) (old new : N)
     → slice_get workers place ≡ Some before → slice_get workers_now place ≡ Some after

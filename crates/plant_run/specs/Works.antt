@@ -91,4 +91,5 @@ pub record WorksOn (may_tell : GoalTest) (was_full : Type 0) (may_give : ℕ →
 abbrev pub Works : (may_give : ℕ → Bool) → (job : Job) → (opened book : BookRecord) → (full : Type 0)
     → (before after : WorkerRecord) → (links links_now : Option Links) → (faults faults_now : ℕ) → Type 0
 Works may_give job opened book full =
-    WorksOn (IsGoalAfter book) full may_give job (entries_of job.inverter opened.entries) (entries_of job.inverter book.entries)
+    WorksOn (IsGoalAfter book) full may_give job (entries_of job.inverter opened.entries)
+    (entries_of job.inverter book.entries)

@@ -72,14 +72,16 @@ fn work_in_halves<R: Threads + Sync, D: Desk + Send, N: Dialer + Send, K: Clock 
         requires { IsSync R.row × IsSync K.row × IsSend D.row × IsSend N.row
             × (length low_desks.now ≡ length low.now) × (length low_dialers.now ≡ length low.now)
             × EachReady D.state low.now low_desks.now }
-        ensures { AllRunOut D.state D.tests D.kept N.links N.faults (K.may_give clock.entry.now) low.entry.now low.exit.now
+        ensures { AllRunOut D.state D.tests D.kept N.links N.faults
+            (K.may_give clock.entry.now) low.entry.now low.exit.now
             low_desks.entry.now low_desks.exit.now low_dialers.entry.now low_dialers.exit.now }
     { work_apart(rt, clock, low, low_desks, low_dialers) };
     let mut second = ||
         requires { IsSync R.row × IsSync K.row × IsSend D.row × IsSend N.row
             × (length high_desks.now ≡ length high.now) × (length high_dialers.now ≡ length high.now)
             × EachReady D.state high.now high_desks.now }
-        ensures { AllRunOut D.state D.tests D.kept N.links N.faults (K.may_give clock.entry.now) high.entry.now high.exit.now
+        ensures { AllRunOut D.state D.tests D.kept N.links N.faults
+            (K.may_give clock.entry.now) high.entry.now high.exit.now
             high_desks.entry.now high_desks.exit.now high_dialers.entry.now high_dialers.exit.now }
     { work_apart(rt, clock, high, high_desks, high_dialers) };
     join_mut(rt, &mut first, &mut second);

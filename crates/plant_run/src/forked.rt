@@ -73,8 +73,10 @@ pub fn run_forked<
         (C.left input.old) (C.left input.new) (O.taken out.old) (O.taken out.new)) }
 
     // The console answers a failed read and a failed write exactly where one failed, and writes nothing more then.
-    ensures input_faults { IfOk result (λ end. HasCause (C.faults input.old) (C.faults input.new) (at_input end.console)) }
-    ensures output_faults { IfOk result (λ end. HasCause (O.faults out.old) (O.faults out.new) (at_output end.console)) }
+    ensures input_faults { IfOk result (λ end. HasCause (C.faults input.old) (C.faults input.new)
+        (at_input end.console)) }
+    ensures output_faults { IfOk result (λ end. HasCause (O.faults out.old) (O.faults out.new)
+        (at_output end.console)) }
     ensures stops { O.faults out.old ≡ 0 → O.late out.new ≡ O.late out.old }
 
     ensures workers_stay { vec_len workers.new ≡ vec_len workers.old }
@@ -202,7 +204,8 @@ fn work_and_listen<
     { work_apart(rt, clock, workers, desks, dialers) };
     let mut listen = || -> ConsoleEnd
         requires { (inverters ≤ 64) × (inverters ≡ (D.state operator.now).inverters) }
-        ensures transcript { IsTranscript result (console_tests (K.may_give clock.entry.now) (D.tests operator.exit.now))
+        ensures transcript { IsTranscript result (console_tests (K.may_give clock.entry.now)
+            (D.tests operator.exit.now))
             (D.tests operator.exit.now).was_full (D.state operator.entry.now) (D.state operator.exit.now)
             (C.left input.entry.now) (C.left input.exit.now) (O.taken out.entry.now) (O.taken out.exit.now) }
         ensures kept { D.kept operator.exit.now ≡ D.kept operator.entry.now }

@@ -26,7 +26,8 @@ pub fn what_a_run_says<N: Dialer>()
     ensures safe_life { (may_give : ℕ → Bool) (turns : ℕ) (read : List ℕ) (site console output : Change)
         (dialers dialers_now : List N) (ended : Ended)
         → IsRunEnd N.links N.faults may_give turns read site console output dialers dialers_now ended
-        → (ended ≡ Ended.Done) ⊎ (((ended ≡ Ended.ReadFault) × (Fails site → ⊥)) ⊎ ((calls : ℕ) × (ended ≡ Ended.BookFull calls)))
+        → (ended ≡ Ended.Done) ⊎ (((ended ≡ Ended.ReadFault) × (Fails site → ⊥))
+        ⊎ ((calls : ℕ) × (ended ≡ Ended.BookFull calls)))
         → GainsText TellsSafeLife output }
 
     // A full book has as many calls as the site file gives it room for, and that many are told.

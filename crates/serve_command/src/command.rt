@@ -34,7 +34,8 @@ fn serve_inverter<N: Dialer, K: Clock>(
     clock: &K,
 ) -> Ended
     requires { IsInRange file }
-    ensures { Serves (K.may_give clock.now) file inverter turns (dialing N.links N.faults dialer.old dialer.new) result }
+    ensures { Serves (K.may_give clock.now) file inverter turns
+        (dialing N.links N.faults dialer.old dialer.new) result }
 {
     let job = match find_inverter(file, inverter) {
         Ok(job) => job,

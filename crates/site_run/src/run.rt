@@ -57,8 +57,10 @@ pub fn run_site<
         (C.left input.old) (C.left input.new) (O.taken out.old) (O.taken out.new)) }
 
     // The console answers a failed read and a failed write exactly where one failed, and writes nothing more then.
-    ensures input_faults { IfOk result (λ ran. HasCause (C.faults input.old) (C.faults input.new) (at_input ran.console)) }
-    ensures output_faults { IfOk result (λ ran. HasCause (O.faults out.old) (O.faults out.new) (at_output ran.console)) }
+    ensures input_faults { IfOk result (λ ran. HasCause (C.faults input.old) (C.faults input.new)
+        (at_input ran.console)) }
+    ensures output_faults { IfOk result (λ ran. HasCause (O.faults out.old) (O.faults out.new)
+        (at_output ran.console)) }
     ensures stops { O.faults out.old ≡ 0 → O.late out.new ≡ O.late out.old }
     ensures unused { OnErr result ((dialers.new.items ≡ dialers.old.items) × (input.new ≡ input.old)
         × (out.new ≡ out.old)) }
