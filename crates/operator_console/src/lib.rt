@@ -11,7 +11,8 @@ mod order;
 mod orders;
 mod rolled;
 mod session;
-mod status;mod writing;
+mod status;
+mod writing;
 
 pub use order::{Order, order_of};
 pub use session::{CONSOLE_BYTES_MAX, ConsoleEnd, console};

@@ -20,7 +20,8 @@ mod pen;
 mod reading;
 mod rows;
 mod script;
-mod size;mod text;
+mod size;
+mod text;
 
 pub use fault::ScriptFault;
 pub use laws::{lines_are_few, one_reading, texts_read_back};
