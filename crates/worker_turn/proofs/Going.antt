@@ -126,12 +126,12 @@ told_still tests tests_now inverter made begun mid now (input.Goal goal) last fr
 told_still tests tests_now inverter made begun mid now input.Full last front told = last.full told
 told_still tests tests_now inverter made begun mid now _ last front told = tt
 
-pub no_goal : (goal : Goal) (result : Result Frame NoFrame) → input.Goal goal ≡ input_of_wait result → ⊥
-no_goal goal (Ok frame) is = cc
-no_goal goal (Err none.Quiet) is = cc
-no_goal goal (Err none.Closed) is = cc
-no_goal goal (Err none.RecvFailed) is = cc
-no_goal goal (Err (none.BadFrame fault)) is = cc
+pub no_goal_of_wait : (goal : Goal) (result : Result Frame NoFrame) → input.Goal goal ≡ input_of_wait result → ⊥
+no_goal_of_wait goal (Ok frame) is = cc
+no_goal_of_wait goal (Err none.Quiet) is = cc
+no_goal_of_wait goal (Err none.Closed) is = cc
+no_goal_of_wait goal (Err none.RecvFailed) is = cc
+no_goal_of_wait goal (Err (none.BadFrame fault)) is = cc
 
 -- a goal that came just now is told at the front
 told_goal : (job : Job) (last : Output) (tests : DeskTests) (inverter begun : ℕ) (desk : DeskState) (goal : Goal) (old mid new : World) → IsFresh last old mid
@@ -141,7 +141,7 @@ told_goal job output.Goal tests inverter begun desk goal old mid new fresh done 
     let Q : ℕ → Type 0 = λ n. tests.may_tell n desk.front inverter goal in
     let made : length desk.made ≡ length old.made = ap length (sym is ∙ ap (λ (w : World). w.made) done ∙ ap (λ (w : World). w.made) fresh) in
     (desk.front, front, omega arith, subst Q made told)
-told_goal job output.Receive tests inverter begun desk goal old mid new fresh done is front told = absurd (no_goal goal done.1.result done.1.is)
+told_goal job output.Receive tests inverter begun desk goal old mid new fresh done is front told = absurd (no_goal_of_wait goal done.1.result done.1.is)
 told_goal job _ tests inverter begun desk goal old mid new fresh done is front told = absurd done
 
 told_now : (job : Job) (last : Output) (came : Input) (tests : DeskTests) (inverter begun : ℕ) (desk : DeskState) (old mid new : World) → IsFresh last old mid

@@ -13,20 +13,19 @@ ghost use Rattle.worker_turn.specs.Desks.{RollsNone};
 ghost use Rattle.worker_turn.specs.Acts.{Begins, is_last};
 ghost use Rattle.worker_turn.specs.Turning.{GoesOn};
 
+use crate::line::Line;
 use crate::perform::perform;
-use frame_inbox::Inbox;
 use inverter_worker::{Input, Job, Output, Sent, State, worker_step};
 use ledger_desk::Desk;
-use world_traits::{Clock, Dialer, Watch};
+use world_traits::{Clock, Watch};
 
 /// Does an output and all that follow it in the turn, and answers where the worker stands then.
-pub(crate) fn go_on<D: Desk, N: Dialer, K: Clock>(
+pub(crate) fn go_on<D: Desk, L: Line, K: Clock>(
     job: &Job,
     begun: (State, Output),
     log: &mut Vec<Sent>,
-    inbox: &mut Inbox,
     desk: &mut D,
-    dialer: &mut N,
+    line: &mut L,
     watch: &mut Watch<'_, K>,
 ) -> State
     requires base { job.now.port.base ≤ 65514 }
@@ -37,18 +36,21 @@ pub(crate) fn go_on<D: Desk, N: Dialer, K: Clock>(
     requires readings { watch.old.readings ≡ [] }
     ensures turn { GoesOn (D.tests desk.new) (D.state desk.old).front (D.state desk.new).front job.now begun.0 begun.1 result
         log.old.items log.new.items
-        (world_of (D.state desk.old).made (N.links dialer.old) (N.faults dialer.old) watch.old.readings inbox.old)
-        (world_of (D.state desk.new).made (N.links dialer.new) (N.faults dialer.new) watch.new.readings inbox.new) }
+        (world_of (D.state desk.old).made (L.links line.old) (L.faults line.old) watch.old.readings
+        (L.unread line.old))
+        (world_of (D.state desk.new).made (L.links line.new) (L.faults line.new) watch.new.readings
+        (L.unread line.new)) }
     ensures last { TestsLast (D.tests desk.old) (D.tests desk.new) }
     ensures stays { RollsNone (D.state desk.old) (D.state desk.new) }
     ensures kept { D.kept desk.new ≡ D.kept desk.old }
+    ensures line { L.kept line.new ≡ L.kept line.old }
     ensures given { AreGiven (K.may_give watch.old.clock) watch.new.readings }
     ensures clock { watch.new.clock ≡ watch.old.clock }
 {
     let (mut state, mut output) = begun;
     let mut ticket = None;
     while !is_last(&output) {
-        let came = perform(job, output, ticket, inbox, desk, dialer, watch);
+        let came = perform(job, output, ticket, desk, line, watch);
         ticket = came.ticket;
         (state, output) = next(job, state, came.input, log);
     }

@@ -2,6 +2,7 @@ ghost use Rattle.std.specs.Prelude.{◌≡◌, ◌<◌, ◌≤◌, [], length, M
 ghost use Rattle.inverter_worker.specs.declared.state.End.{End as Ending};
 
 use crate::begin::{begin, turned};
+use crate::line::OwnLine;
 use crate::turning::go_on;
 use frame_inbox::Inbox;
 use inverter_worker::{End, Job, Sent, State, Step};
@@ -136,8 +137,11 @@ impl Worker {
             return Turned::Over(end);
         }
         let begun = begin(&self.job, self.state, &mut self.log);
-        let (log, inbox) = (&mut self.log, &mut self.inbox);
-        let state = go_on(&self.job, begun, log, inbox, desk, dialer, watch);
+        let mut line = OwnLine {
+            dialer,
+            inbox: &mut self.inbox,
+        };
+        let state = go_on(&self.job, begun, &mut self.log, desk, &mut line, watch);
         self.state = state;
         turned(state.step)
     }

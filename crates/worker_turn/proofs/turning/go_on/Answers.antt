@@ -15,7 +15,7 @@ use Rattle.worker_turn.proofs.turning.go_on.Goals as goal
 pub loop-output-init : goal.loop-output-init
 loop-output-init g c =
     let begun = c.args.begun in
-    let world = world_of (g.D.Desk.state c.args.desk.now).made (g.N.Dialer.links c.args.dialer.now) (g.N.Dialer.faults c.args.dialer.now) c.args.watch.now.readings c.args.inbox.now in
+    let world = world_of (g.D.Desk.state c.args.desk.now).made (g.L.Line.links c.args.line.now) (g.L.Line.faults c.args.line.now) c.args.watch.now.readings (g.L.Line.unread c.args.line.now) in
     let stands = begins_stands c.args.job.now begun.0.step begun.1 c.requires.begun in
     let none : length c.args.watch.now.readings ≡ 0 = ap length c.requires.readings in
     record {
@@ -24,6 +24,7 @@ loop-output-init g c =
       last = same _;
       stays = still _;
       kept = refl;
+      line = refl;
       ticket = begins_held c.args.job.now begun.0.step begun.1 c.requires.begun;
       clock = refl;
       given = λ place other within. absurd (omega (arith, none, within));
@@ -76,6 +77,7 @@ loop-output-preserved g c =
       last = lasting _ _ _ invariant.last c.perform-came.ensures.last;
       stays = staying _ _ _ invariant.stays c.perform-came.ensures.stays;
       kept = c.perform-came.ensures.kept ∙ invariant.kept;
+      line = c.perform-came.ensures.line ∙ invariant.line;
       ticket = c.perform-came.ensures.ticket ∙ ap (ticket_after last came) invariant.ticket ∙ goes.ticket;
       clock = c.perform-came.ensures.clock ∙ invariant.clock;
       given =

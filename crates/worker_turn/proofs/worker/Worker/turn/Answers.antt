@@ -1,4 +1,4 @@
-use Rattle.std.proofs.Common.{◌≡◌, ◌≤◌, ◌+◌, suc, List, ap, subst, ◌∙◌}
+use Rattle.std.proofs.Common.{◌≡◌, ℕ, ◌≤◌, ◌+◌, suc, List, sym, ap, subst, ◌∙◌}
 use Rattle.inverter_worker.specs.declared.output.Sent.{Sent}
 use Rattle.inverter_worker.specs.declared.state.Step.TheVariants.{Ready}
 use Rattle.worker_turn.specs.Doing.{World, world_of}
@@ -14,7 +14,7 @@ returns g c =
     let view = c.self.view_is in
     let before : WorkerRecord = record { job = inside.job; state = inside.state; log = inside.log.items; unread = inside.inbox } in
     let after : WorkerRecord =
-    record { job = inside.job; state = c.go_on-state.result; log = c.go_on-state.new.log.items; unread = c.go_on-state.new.inbox } in
+    record { job = inside.job; state = c.go_on-state.result; log = c.go_on-state.new.log.items; unread = c.go_on-state.new.line.inbox.now } in
     let tests = g.D.Desk.tests c.go_on-state.new.desk in
     let desk = g.D.Desk.state c.args.desk.now in
     let desk_now = g.D.Desk.state c.go_on-state.new.desk in
@@ -25,13 +25,17 @@ returns g c =
     let faults = g.N.Dialer.faults c.args.dialer.now in
     let readings = c.args.watch.now.readings in
     let old : World = world_of made links faults readings inside.inbox in
-    let new : World =
-    world_of desk_now.made (g.N.Dialer.links c.go_on-state.new.dialer) (g.N.Dialer.faults c.go_on-state.new.dialer)
-    c.go_on-state.new.watch.readings c.go_on-state.new.inbox in
+    let line = c.go_on-state.new.line in
+    let dialer = c.dialer-1.given.0 in
+    let back : dialer ≡ line.dialer.now = c.dialer-1.given.1 (sym (ap (λ (names : ℕ × ℕ). names.0) c.go_on-state.ensures.line)) in
+    let world : g.row.N.Denot → World = λ dialer.
+    world_of desk_now.made (g.N.Dialer.links dialer) (g.N.Dialer.faults dialer) c.go_on-state.new.watch.readings line.inbox.now in
+    let new : World = world dialer in
     let begun = c.begin-begun.result in
-    let P : List Sent → Type 0 = λ logged. GoesOn tests front front_now before.job begun.0 begun.1 after.state logged after.log old new in
+    let P : List Sent → Type 0 = λ logged. GoesOn tests front front_now before.job begun.0 begun.1 after.state logged after.log old (world line.dialer.now) in
+    let R : g.row.N.Denot → Type 0 = λ dialer. GoesOn tests front front_now before.job begun.0 begun.1 after.state before.log after.log old (world dialer) in
     let goes : GoesOn tests front front_now before.job begun.0 begun.1 after.state before.log after.log old new =
-    subst P c.begin-begun.ensures.items c.go_on-state.ensures.turn in
+    subst R (sym back) (subst P c.begin-begun.ensures.items c.go_on-state.ensures.turn) in
     let ready : inside.state.step ≡ Ready = between inside.state.step c.self.invariant.1 c.in_default.not-Over in
     let row = c.begin-begun.ensures.row in
     let turn : IsTurn tests front front_now before after old new =
