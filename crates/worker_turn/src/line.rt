@@ -1,8 +1,9 @@
-ghost use Rattle.std.specs.Prelude.{◌≡◌, ℕ, List, [], Option, OnErr, OnOk};
+ghost use Rattle.std.specs.Prelude.{◌≡◌, ℕ, Bool, List, [], Option, OnErr, OnOk};
 ghost use Rattle.std.specs.Option.{option_map};
 ghost use Rattle.world_traits.specs.Causes.{HasCause};
-ghost use Rattle.world_traits.specs.Links.{Links, IsCutShort, after_hang_up, with_bytes, with_link};
+ghost use Rattle.world_traits.specs.Links.{Links, IsCutShort, after_hang_up, with_bytes};
 ghost use Rattle.frame_inbox.specs.Waiting.{Counts, IsWait};
+ghost use Rattle.worker_turn.specs.Lines.{IsDialed};
 
 use frame_inbox::{Inbox, NoFrame};
 use mbap_frames::Frame;
@@ -12,6 +13,9 @@ use world_traits::{DialFailed, Dialer, SendFailed, send_whole};
 ///
 /// Each call may wait, and none is handed the runtime: a line that waits holds what it waits by.
 pub trait Line {
+    /// Whether others use the link too.
+    ghost shares: { Bool };
+
     /// The record of the links so far, where the line tells it.
     ghost links: { Self → Option Links };
 
@@ -28,9 +32,11 @@ pub trait Line {
 
     /// Makes a link to a host's TCP port, which is up from then on, and on which nothing came yet. `wait` says how long
     /// this dial and each receive on the link waits at most, in ms. Where the dial fails all is as before.
+    ///
+    /// A line that is shared makes no link where one is up: that one stands, with what came on it.
     fn dial(&mut self, host: &str, port: u16, wait: u32) -> Result<(), DialFailed>
-        ensures dialed { OnOk result ((links self.new ≡ option_map (with_link host.now port) (links self.old))
-            × (unread self.new ≡ [])) }
+        ensures dialed { OnOk result (IsDialed shares host.now port (links self.old) (links self.new)
+            (unread self.old) (unread self.new)) }
         ensures failed { OnErr result ((links self.new ≡ links self.old) × (unread self.new ≡ unread self.old)) }
         ensures cause { HasCause (faults self.old) (faults self.new) result }
         ensures kept { kept self.new ≡ kept self.old };
@@ -68,7 +74,9 @@ pub struct OwnLine<'a, N: Dialer> {
 }
 
 impl<'a, N: Dialer> Line for OwnLine<'a, N> {
-    ghost use Rattle.std.specs.Prelude.{ℕ};
+    ghost use Rattle.std.specs.Prelude.{ℕ, false};
+
+    ghost shares = { false };
 
     ghost links = { λ line. N.links line.dialer.now };
 

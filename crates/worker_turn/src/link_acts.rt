@@ -1,6 +1,6 @@
 //! What is done with the link.
 ghost use Rattle.std.specs.Prelude.{◌≡◌, ◌<◌, ◌≤◌, length};
-ghost use Rattle.worker_turn.specs.Doing.{World, IsDone, request_frame};
+ghost use Rattle.worker_turn.specs.Doing.{World, IsDoneOn, request_frame};
 ghost use Rattle.worker_turn.specs.Desks.{IsPlain};
 ghost use Rattle.worker_turn.specs.Acts.{IsDoable};
 
@@ -13,7 +13,7 @@ use readback::{read_request, write_request};
 
 /// Makes a link, on which nothing came yet.
 pub(crate) fn make_link<L: Line>(job: &Job, line: &mut L) -> Input
-    ensures done { (rest : World) → IsDone job.now Output.Dial result
+    ensures done { (rest : World) → IsDoneOn L.shares job.now Output.Dial result
         (record rest { links = L.links line.old; faults = L.faults line.old; unread = L.unread line.old })
         (record rest { links = L.links line.new; faults = L.faults line.new; unread = L.unread line.new }) }
     ensures plain { IsPlain result }
@@ -36,7 +36,7 @@ pub(crate) fn send_request<L: Line>(
 ) -> Input
     requires base { job.now.port.base ≤ 65514 }
     requires ticket { IsDoable job.now (Output.Send request clock) ticket }
-    ensures done { (rest : World) → IsDone job.now (Output.Send request clock) result
+    ensures done { (rest : World) → IsDoneOn L.shares job.now (Output.Send request clock) result
         (record rest { links = L.links line.old; faults = L.faults line.old; unread = L.unread line.old })
         (record rest { links = L.links line.new; faults = L.faults line.new; unread = L.unread line.new }) }
     ensures plain { IsPlain result }
@@ -67,7 +67,7 @@ fn frame_of(job: &Job, request: Asked, clock: u64, ticket: Option<Ticket>) -> Fr
 
 /// Waits for a frame.
 pub(crate) fn wait_for_frame<L: Line>(job: &Job, line: &mut L) -> Input
-    ensures done { (rest : World) → IsDone job.now Output.Receive result
+    ensures done { (rest : World) → IsDoneOn L.shares job.now Output.Receive result
         (record rest { links = L.links line.old; faults = L.faults line.old; unread = L.unread line.old })
         (record rest { links = L.links line.new; faults = L.faults line.new; unread = L.unread line.new }) }
     ensures plain { IsPlain result }
@@ -84,7 +84,7 @@ pub(crate) fn wait_for_frame<L: Line>(job: &Job, line: &mut L) -> Input
 
 /// Takes the link down, and forgets what came on it.
 pub(crate) fn take_down<L: Line>(job: &Job, line: &mut L) -> Input
-    ensures done { (rest : World) → IsDone job.now Output.HangUp result
+    ensures done { (rest : World) → IsDoneOn L.shares job.now Output.HangUp result
         (record rest { links = L.links line.old; faults = L.faults line.old; unread = L.unread line.old })
         (record rest { links = L.links line.new; faults = L.faults line.new; unread = L.unread line.new }) }
     ensures plain { IsPlain result }

@@ -1,7 +1,7 @@
 //! One output of the table is done.
 ghost use Rattle.std.specs.Prelude.{◌≡◌, ◌<◌, ◌≤◌, length};
 ghost use Rattle.world_traits.specs.Clocks.{AreGiven, readings_max};
-ghost use Rattle.worker_turn.specs.Doing.{IsDone, world_of};
+ghost use Rattle.worker_turn.specs.Doing.{IsDoneOn, world_of};
 ghost use Rattle.ledger_desk.specs.Desk.{TestsLast};
 ghost use Rattle.worker_turn.specs.Desks.{IsToldNow, RollsNone};
 ghost use Rattle.worker_turn.specs.Acts.{IsDoable, ticket_after};
@@ -27,7 +27,7 @@ pub(crate) fn perform<D: Desk, L: Line, K: Clock>(
     requires of_desk { job.now.inverter < (D.state desk.old).inverters }
     requires doable { IsDoable job.now output ticket }
     requires readings { length watch.old.readings < readings_max }
-    ensures done { IsDone job.now output result.input
+    ensures done { IsDoneOn L.shares job.now output result.input
         (world_of (D.state desk.old).made (L.links line.old) (L.faults line.old) watch.old.readings
         (L.unread line.old))
         (world_of (D.state desk.new).made (L.links line.new) (L.faults line.new) watch.new.readings

@@ -34,7 +34,7 @@ pub(crate) fn go_on<D: Desk, L: Line, K: Clock>(
     requires reached { (from : Record) × (came : Cause) × (table job.now from came ≡ Some (begun.0, begun.1)) }
     requires room { begun.1 ≡ Output.Goal → vec_len log.old + 2 ≤ vec_capacity log.old }
     requires readings { watch.old.readings ≡ [] }
-    ensures turn { GoesOn (D.tests desk.new) (D.state desk.old).front (D.state desk.new).front job.now begun.0 begun.1 result
+    ensures turn { GoesOn L.shares (D.tests desk.new) (D.state desk.old).front (D.state desk.new).front job.now begun.0 begun.1 result
         log.old.items log.new.items
         (world_of (D.state desk.old).made (L.links line.old) (L.faults line.old) watch.old.readings
         (L.unread line.old))

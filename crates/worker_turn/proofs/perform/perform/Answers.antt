@@ -9,7 +9,7 @@ use Rattle.worker_turn.proofs.perform.perform.Goals as goal
 
 pub returns-in-Goal-clause-done : goal.returns-in-Goal-clause-done
 returns-in-Goal-clause-done g c = rw (c.in-Goal.is, c.came.ensures.input)
-    (c.ask_goal.ensures.done (world_of (g.D.Desk.state c.args.desk.now).made (g.L.Line.links c.args.line.now)
+    (c.ask_goal.ensures.done g.L.Line.shares (world_of (g.D.Desk.state c.args.desk.now).made (g.L.Line.links c.args.line.now)
     (g.L.Line.faults c.args.line.now) c.args.watch.now.readings (g.L.Line.unread c.args.line.now)))
 
 pub returns-in-Dial-clause-done : goal.returns-in-Dial-clause-done
@@ -24,7 +24,7 @@ returns-in-Dial-clause-told g c = rw c.came-in-Dial.ensures.input
 
 pub returns-in-Now-clause-done : goal.returns-in-Now-clause-done
 returns-in-Now-clause-done g c = rw (c.in-Now.is, c.came-in-Now.ensures.input)
-    (c.read_clock.ensures.done (world_of (g.D.Desk.state c.args.desk.now).made (g.L.Line.links c.args.line.now)
+    (c.read_clock.ensures.done g.L.Line.shares (world_of (g.D.Desk.state c.args.desk.now).made (g.L.Line.links c.args.line.now)
     (g.L.Line.faults c.args.line.now) c.args.watch.now.readings (g.L.Line.unread c.args.line.now)))
 
 pub returns-in-Now-clause-told : goal.returns-in-Now-clause-told
@@ -34,7 +34,7 @@ returns-in-Now-clause-told g c = rw c.came-in-Now.ensures.input
 
 pub returns-in-Call-clause-done : goal.returns-in-Call-clause-done
 returns-in-Call-clause-done g c = rw c.in-Call.is
-    (c.make_call.ensures.done (world_of (g.D.Desk.state c.args.desk.now).made (g.L.Line.links c.args.line.now)
+    (c.make_call.ensures.done g.L.Line.shares (world_of (g.D.Desk.state c.args.desk.now).made (g.L.Line.links c.args.line.now)
     (g.L.Line.faults c.args.line.now) c.args.watch.now.readings (g.L.Line.unread c.args.line.now)))
 
 pub returns-in-Some-clause-done : goal.returns-in-Some-clause-done
@@ -45,7 +45,7 @@ returns-in-Some-clause-done g c =
     let is : c.args.output ≡ output.Release c.in-Some.ticket c.in-Release.at =
     c.in-Release.is ∙ ap (λ (w : writes.Write). output.Release w c.in-Release.at) same in
     rw (is, c.came-in-Some.ensures.input)
-    (c.give_back.ensures.done (world_of (g.D.Desk.state c.args.desk.now).made (g.L.Line.links c.args.line.now)
+    (c.give_back.ensures.done g.L.Line.shares (world_of (g.D.Desk.state c.args.desk.now).made (g.L.Line.links c.args.line.now)
     (g.L.Line.faults c.args.line.now) c.args.watch.now.readings (g.L.Line.unread c.args.line.now)))
 
 pub returns-in-Send-clause-done : goal.returns-in-Send-clause-done

@@ -1,4 +1,4 @@
-use Rattle.std.proofs.Common.{◌≡◌, ℕ, ◌≤◌, ◌+◌, suc, List, sym, ap, subst, ◌∙◌}
+use Rattle.std.proofs.Common.{◌≡◌, ℕ, ◌≤◌, ◌+◌, suc, false, List, sym, ap, subst, ◌∙◌}
 use Rattle.inverter_worker.specs.declared.output.Sent.{Sent}
 use Rattle.inverter_worker.specs.declared.state.Step.TheVariants.{Ready}
 use Rattle.worker_turn.specs.Doing.{World, world_of}
@@ -32,28 +32,28 @@ returns g c =
     world_of desk_now.made (g.N.Dialer.links dialer) (g.N.Dialer.faults dialer) c.go_on-state.new.watch.readings line.inbox.now in
     let new : World = world dialer in
     let begun = c.begin-begun.result in
-    let P : List Sent → Type 0 = λ logged. GoesOn tests front front_now before.job begun.0 begun.1 after.state logged after.log old (world line.dialer.now) in
-    let R : g.row.N.Denot → Type 0 = λ dialer. GoesOn tests front front_now before.job begun.0 begun.1 after.state before.log after.log old (world dialer) in
-    let goes : GoesOn tests front front_now before.job begun.0 begun.1 after.state before.log after.log old new =
+    let P : List Sent → Type 0 = λ logged. GoesOn false tests front front_now before.job begun.0 begun.1 after.state logged after.log old (world line.dialer.now) in
+    let R : g.row.N.Denot → Type 0 = λ dialer. GoesOn false tests front front_now before.job begun.0 begun.1 after.state before.log after.log old (world dialer) in
+    let goes : GoesOn false tests front front_now before.job begun.0 begun.1 after.state before.log after.log old new =
     subst R (sym back) (subst P c.begin-begun.ensures.items c.go_on-state.ensures.turn) in
     let ready : inside.state.step ≡ Ready = between inside.state.step c.self.invariant.1 c.in_default.not-Over in
     let row = c.begin-begun.ensures.row in
     let turn : IsTurn tests front front_now before after old new =
-    whole tests front front_now before after begun.0 begun.1 row.0 old new row.1 row.2 c.begin-begun.ensures.begins c.requires.readings goes in
+    whole false tests front front_now before after begun.0 begun.1 row.0 old new row.1 row.2 c.begin-begun.ensures.begins c.requires.readings goes in
     let Q : WorkerRecord → Type 0 = λ worker. IsTurn tests front front_now worker after (world_of made links faults readings worker.unread) new in
     record {
       answer = c.turned.ensures;
       job = ap (λ (w : WorkerRecord). w.job) view;
       turn = λ _. subst Q view turn;
-      few = few tests front front_now before after old new turn;
+      few = few false tests front front_now before after old new turn;
       given = c.go_on-state.ensures.given;
-      memory = λ short. let i = idle tests front front_now before.job begun.0 after.state begun.1 before.log after.log old new goes short in (
+      memory = λ short. let i = idle false tests front front_now before.job begun.0 after.state begun.1 before.log after.log old new goes short in (
         i.0 ∙ ap (λ (w : WorkerRecord). w.log) view,
         i.1 ∙ ap (λ (w : WorkerRecord). world_of made links faults readings w.unread) view,
       );
       over = λ end is. absurd (c.in_default.not-Over end (ap (λ (w : WorkerRecord). w.state.step) view ∙ is));
       fewer = λ again. ready_fewer after.state.step after.state.turns c.args.self.now.state.turns (again_ready c.turned.result after.state.step c.turned.ensures again)
-          (subst (λ (w : WorkerRecord). left after.state + 1 ≤ suc w.state.turns) view (fewer tests front front_now before after old new ready turn));
+          (subst (λ (w : WorkerRecord). left after.state + 1 ≤ suc w.state.turns) view (fewer false tests front front_now before after old new ready turn));
       kept = c.go_on-state.ensures.kept;
       stays = c.go_on-state.ensures.stays;
       last = c.go_on-state.ensures.last;
