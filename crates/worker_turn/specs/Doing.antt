@@ -78,7 +78,8 @@ DialIsDone true job old new =
     (new ≡ record old { links = new.links; unread = new.unread })
     × IsDialed true job.port.host job.port.port old.links new.links old.unread new.unread
 
--- An output was done on a line that is shared or isn't, and this input came of it. Behind a turn the next one begins.
+-- An output was done on a line that is shared or isn't, and this input came of it. Behind a turn the next one
+-- begins.
 abbrev pub IsDoneOn : (shares : Bool) → Job → Output → Input → World → World → Type 0
 IsDoneOn shares job output.Goal (input.Goal goal) old new = new ≡ old
 IsDoneOn shares job output.Dial input.Dialed old new = DialIsDone shares job old new
@@ -88,10 +89,13 @@ IsDoneOn shares job output.Now (input.Time clock) old new =
     (new ≡ record old { readings = old.readings ++ clock ∷ [] }) × (clock ≤ moment_max)
 IsDoneOn shares job (output.Call call) (input.Reply reply) old new = IsEntered call reply old new
 IsDoneOn shares job (output.Call call) input.Full old new = new ≡ old
-IsDoneOn shares job (output.Release write at) (input.Reply reply) old new = IsEntered (back_of write at) reply old new
+IsDoneOn shares job (output.Release write at) (input.Reply reply) old new =
+    IsEntered (back_of write at) reply old new
 IsDoneOn shares job (output.Release write at) input.Full old new = new ≡ old
 IsDoneOn shares job (output.Send request clock) input.SentAll old new =
-    new ≡ record old { links = option_map (with_bytes (frame_spelling (request_frame job request))) old.links }
+    new ≡ record old {
+      links = option_map (with_bytes (frame_spelling (request_frame job request))) old.links;
+    }
 IsDoneOn shares job (output.Send request clock) input.SendFailed old new =
     (new ≡ record old { links = new.links; faults = new.faults })
     × IsCutShort (frame_spelling (request_frame job request)) old.links new.links × Rose old.faults new.faults
@@ -109,7 +113,8 @@ IsDoneOn shares job output came old new = ⊥
 abbrev pub AreDoneOn : (shares : Bool) → Job → Output → List RunStep → World → World → Type 0
 AreDoneOn shares job output [] old new = new ≡ old
 AreDoneOn shares job output (next ∷ later) old new =
-    (between : World) × IsDoneOn shares job output next.input old between × AreDoneOn shares job next.output later between new
+    (between : World) × IsDoneOn shares job output next.input old between
+    × AreDoneOn shares job next.output later between new
 
 -- The same on a line of one's own, as a worker has it.
 abbrev pub IsDone : Job → Output → Input → World → World → Type 0

@@ -30,7 +30,8 @@ IsFresh output old new = Unit {0}
 
 -- These steps followed on an output, from a state to a state, and what they put out was done, but for the
 -- last.
-pub record Follows (shares : Bool) (tests : DeskTests) (front front_now : ℕ) (job : Job) (begun : State) (first : Output)
+pub record Follows (shares : Bool) (tests : DeskTests) (front front_now : ℕ) (job : Job) (begun : State)
+    (first : Output)
     (later : List RunStep) (state : State) (last : Output) (logged log_now : List Sent) (old new : World)
     : Type 0 where
   pub within : AllByRecursion IsWithinTurn later
@@ -39,14 +40,16 @@ pub record Follows (shares : Bool) (tests : DeskTests) (front front_now : ℕ) (
   pub done : AreDoneOn shares job first later old new
   pub log : log_now ≡ logged ++ log later
   pub readings : new.readings ≡ old.readings ++ readings later
-  pub told : AllByRecursion (λ one. IsTold tests job.inverter (length old.made) front front_now one.input) later
+  pub told : AllByRecursion (λ one.
+      IsTold tests job.inverter (length old.made) front front_now one.input) later
   pub stands : Stands job state.step last
   pub fresh : IsFresh last old new
   pub reached : (from : State) × (came : Input) × (table job from came ≡ Some (state, last))
   pub memory : state.step ≡ Over over.NoMemory → later ≡ []
 
 -- The rest of a turn, from its first output on.
-pub record GoesOn (shares : Bool) (tests : DeskTests) (front front_now : ℕ) (job : Job) (begun : State) (first : Output) (state : State)
+pub record GoesOn (shares : Bool) (tests : DeskTests) (front front_now : ℕ) (job : Job) (begun : State)
+    (first : Output) (state : State)
     (logged log_now : List Sent) (old new : World) : Type 0 where
   pub later : List RunStep
   pub last : Output

@@ -45,8 +45,8 @@ IsBegin came = (came ≡ input.Go) ⊎ (came ≡ input.NoRoom)
 
 -- One turn, on a line that is shared or isn't: a run of the table from the worker's state to its next, whose
 -- outputs were done, and whose requests are those that the log has gained. The readings of the clock are the
--- times that came, and the desk, whose front went from one to another, passes the goals and the full book that
--- came.
+-- times that came, and the desk, whose front went from one to another, passes the goals and the full book
+-- that came.
 pub record IsTurnOn (shares : Bool) (tests : DeskTests) (front front_now : ℕ) (before after : WorkerRecord)
     (old new : World) : Type 0 where
   pub first : RunStep
@@ -61,5 +61,6 @@ pub record IsTurnOn (shares : Bool) (tests : DeskTests) (front front_now : ℕ) 
       IsTold tests before.job.inverter (length old.made) front front_now one.input) later
 
 -- One turn of a worker, which has a line of its own.
-abbrev pub IsTurn : DeskTests → (front front_now : ℕ) → (before after : WorkerRecord) → (old new : World) → Type 0
+abbrev pub IsTurn : DeskTests → (front front_now : ℕ) → (before after : WorkerRecord) → (old new : World)
+    → Type 0
 IsTurn tests front front_now before after old new = IsTurnOn false tests front front_now before after old new

@@ -19,6 +19,7 @@ pub use laws::{
     turns_are_runs, waits_end_as_answered,
 };
 pub use line::{Line, OwnLine};
+pub use turning::take_turn;
 pub use worker::{Turned, Worker};
 
 #[cfg(test)]

@@ -37,7 +37,8 @@ pub trait Line {
     fn dial(&mut self, host: &str, port: u16, wait: u32) -> Result<(), DialFailed>
         ensures dialed { OnOk result (IsDialed shares host.now port (links self.old) (links self.new)
             (unread self.old) (unread self.new)) }
-        ensures failed { OnErr result ((links self.new ≡ links self.old) × (unread self.new ≡ unread self.old)) }
+        ensures failed { OnErr result ((links self.new ≡ links self.old)
+            × (unread self.new ≡ unread self.old)) }
         ensures cause { HasCause (faults self.old) (faults self.new) result }
         ensures kept { kept self.new ≡ kept self.old };
 
