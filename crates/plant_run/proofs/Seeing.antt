@@ -70,7 +70,7 @@ viewed_done see earlier job (output.Send request clock) input.SentAll old new ad
 viewed_done see earlier job (output.Send request clock) input.SendFailed old new adds done = (ap (viewed see earlier) done.0, done.1, done.2)
 viewed_done see earlier job output.Receive came old new adds done =
     let it = done.1 in
-    (ap (viewed see earlier) done.0, record { result = it.result; is = it.is; waits = it.waits; counts = it.counts })
+    (ap (viewed see earlier) done.0, record { result = it.result; is = it.is; wait = it.wait; counts = it.counts })
 viewed_done see earlier job output.HangUp input.HungUp old new adds done = ap (viewed see earlier) done
 viewed_done see earlier job (output.Rest ms) input.Rested old new adds done = ap (viewed see earlier) done
 viewed_done see earlier job output.Nothing input.Go old new adds done = ap (viewed see earlier) done

@@ -17,7 +17,7 @@ use Rattle.worker_turn.specs.Acts.{is_last, Stands}
 use Rattle.worker_turn.specs.Turning.{pending}
 use Rattle.worker_turn.specs.Agreeing.{made_by, calls_made}
 use Rattle.worker_turn.proofs.Rows.{IsNotGoal, Led, led}
-use Rattle.worker_turn.proofs.Going.{not_arrived}
+use Rattle.worker_turn.proofs.Going.{no_goal_of_wait}
 use Rattle.plant_run.specs.Works.{IsToldAt, AreTold}
 use Rattle.plant_run.proofs.Seeing.{IsOwn, makes_own, made_own, all_joined}
 
@@ -35,7 +35,7 @@ NoGoalsBehind (one ∷ later) = NoGoals later
 
 no_goal : (job : Job) (put : Output) (came : Input) (old new : World) → IsDone job put came old new → IsNotGoal put → IsNoGoal came
 no_goal job output.Goal came old new done not = absurd not
-no_goal job output.Receive (input.Goal goal) old new done not = absurd (not_arrived goal done.1.result done.1.is)
+no_goal job output.Receive (input.Goal goal) old new done not = absurd (no_goal_of_wait goal done.1.result done.1.is)
 no_goal job put (input.Goal goal) old new done not = absurd done
 no_goal job put came old new done not = tt
 

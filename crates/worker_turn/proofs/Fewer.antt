@@ -21,7 +21,7 @@ use Rattle.inverter_worker.specs.Table.{row, table, other_frame_row, judgement_r
 use Rattle.inverter_worker.specs.Runs.{RunStep, LeadsTo}
 use Rattle.inverter_worker.specs.Turns.{IsWithinTurn}
 use Rattle.worker_turn.specs.Doing.{World}
-use Rattle.worker_turn.specs.Worker.{WorkerRecord, IsBegin, IsTurn}
+use Rattle.worker_turn.specs.Worker.{WorkerRecord, IsBegin, IsTurnOn}
 use Rattle.ledger_desk.specs.Desk.{DeskTests}
 
 -- the turns that are left, and one more as long as the worker isn't over
@@ -149,9 +149,9 @@ rest_left job state last (one ∷ later) leads within =
     omega (arith, one_less, alive, rest_left job next last later leads.1.1.1 within.1)
 
 -- the turns left after a turn are fewer
-pub fewer : (tests : DeskTests) (front front_now : ℕ) (before after : WorkerRecord) (old new : World) → before.state.step ≡ Ready
-    → IsTurn tests front front_now before after old new → left after.state + 1 ≤ suc before.state.turns
-fewer tests front front_now before after old new ready turn =
+pub fewer : (shares : Bool) (tests : DeskTests) (front front_now : ℕ) (before after : WorkerRecord) (old new : World) → before.state.step ≡ Ready
+    → IsTurnOn shares tests front front_now before after old new → left after.state + 1 ≤ suc before.state.turns
+fewer shares tests front front_now before after old new ready turn =
     let next = turn.leads.1.0 in
     let P : Step → Type 0 = λ step. row before.job before.state step turn.first.input ≡ Some (next, turn.first.output) in
     let Q : Option (State × Output) → Type 0 = λ row. Keeps before.state.turns row in

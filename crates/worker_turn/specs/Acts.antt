@@ -73,7 +73,8 @@ Stands job (ReadWindow read) output.Now = Unit {0}
 Stands job (SendingRead read) (output.Send (asked.Read sent) clock) = Unit {0}
 Stands job (WaitRead read) output.Receive = Unit {0}
 Stands job (SawTiming read raw) output.Now = Unit {0}
-Stands job SawAsking (output.Call (call.Saw at inverter number raw)) = (at ≤ moment_max) × (inverter ≡ job.inverter)
+Stands job SawAsking (output.Call (call.Saw at inverter number raw)) =
+    (at ≤ moment_max) × (inverter ≡ job.inverter)
 Stands job Closing output.HangUp = Unit {0}
 Stands job (UnfitClosing point wanted found) output.HangUp = Unit {0}
 Stands job Resting (output.Rest ms) = Unit {0}

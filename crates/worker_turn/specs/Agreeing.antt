@@ -86,7 +86,8 @@ dialed job run = flat_map (λ one. dialed_in job one.input) run
 
 -- these bytes were sent on the link that is up
 abbrev pub IsSent : List ℕ → Option Links → Type 0
-IsSent bytes told = (links : Links) (link : Link) → told ≡ Some links → links.current ≡ Some link → link.sent ≡ bytes
+IsSent bytes told = (links : Links) (link : Link) → told ≡ Some links → links.current ≡ Some link
+    → link.sent ≡ bytes
 
 -- The bytes sent on the link that is up, before and after an output that was done with this input: a new link
 -- has none; a request that went out whole is its frame, and of one whose send failed there is a part.
@@ -102,4 +103,5 @@ Sends job output came before after = after ≡ before
 abbrev pub AreSent : Job → Output → List RunStep → (before after : List ℕ) → Type 0
 AreSent job output [] before after = after ≡ before
 AreSent job output (next ∷ later) before after =
-    (between : List ℕ) × Sends job output next.input before between × AreSent job next.output later between after
+    (between : List ℕ) × Sends job output next.input before between
+    × AreSent job next.output later between after

@@ -1,6 +1,6 @@
 -- What it is to do an output, and which input comes of it: what the entries, the links, the clock and the
 -- unread bytes are before and after.
-use Rattle.std.specs.Prelude.{◌≡◌, ℕ, ◌≤◌, List, [], ◌∷◌, ◌++◌, Option, Result, Ok, Err, option_map}
+use Rattle.std.specs.Prelude.{◌≡◌, ℕ, ◌≤◌, Bool, true, false, List, [], ◌∷◌, ◌++◌, Option, Result, Ok, Err, option_map}
 use Rattle.world_traits.specs.Causes.{Rose}
 use Rattle.world_traits.specs.Clocks.{moment_max}
 use Rattle.world_traits.specs.Links.{Links, IsCutShort, after_hang_up, with_bytes, with_link}
@@ -25,6 +25,7 @@ use Rattle.inverter_worker.specs.declared.output.Output.TheVariants as output
 use Rattle.inverter_worker.specs.declared.output.Asked.{Asked}
 use Rattle.inverter_worker.specs.declared.output.Asked.TheVariants as asked
 use Rattle.inverter_worker.specs.Runs.{RunStep}
+use Rattle.worker_turn.specs.Lines.{IsDialed}
 
 -- What a worker reaches: the entries that were made through its desk, the record of its dialer's links where
 -- that is told, the dialer's count of faults, what was read of the clock in this turn, and the bytes that
@@ -69,36 +70,55 @@ pub record IsWaited (came : Input) (old new : World) : Type 0 where
   pub wait : IsWait result old.unread new.unread old.links new.links
   pub counts : Counts result old.faults new.faults
 
--- An output was done, and this input came of it. Behind a turn the next one begins.
-abbrev pub IsDone : Job → Output → Input → World → World → Type 0
-IsDone job output.Goal (input.Goal goal) old new = new ≡ old
-IsDone job output.Dial input.Dialed old new =
+-- A dial was done and answered as dialed, on a line of one's own or on one that is shared.
+abbrev pub DialIsDone : (shares : Bool) → Job → World → World → Type 0
+DialIsDone false job old new =
     new ≡ record old { links = option_map (with_link job.port.host job.port.port) old.links; unread = [] }
-IsDone job output.Dial input.DialFailed old new =
+DialIsDone true job old new =
+    (new ≡ record old { links = new.links; unread = new.unread })
+    × IsDialed true job.port.host job.port.port old.links new.links old.unread new.unread
+
+-- An output was done on a line that is shared or isn't, and this input came of it. Behind a turn the next one
+-- begins.
+abbrev pub IsDoneOn : (shares : Bool) → Job → Output → Input → World → World → Type 0
+IsDoneOn shares job output.Goal (input.Goal goal) old new = new ≡ old
+IsDoneOn shares job output.Dial input.Dialed old new = DialIsDone shares job old new
+IsDoneOn shares job output.Dial input.DialFailed old new =
     (new ≡ record old { faults = new.faults }) × Rose old.faults new.faults
-IsDone job output.Now (input.Time clock) old new =
+IsDoneOn shares job output.Now (input.Time clock) old new =
     (new ≡ record old { readings = old.readings ++ clock ∷ [] }) × (clock ≤ moment_max)
-IsDone job (output.Call call) (input.Reply reply) old new = IsEntered call reply old new
-IsDone job (output.Call call) input.Full old new = new ≡ old
-IsDone job (output.Release write at) (input.Reply reply) old new = IsEntered (back_of write at) reply old new
-IsDone job (output.Release write at) input.Full old new = new ≡ old
-IsDone job (output.Send request clock) input.SentAll old new =
-    new ≡ record old { links = option_map (with_bytes (frame_spelling (request_frame job request))) old.links }
-IsDone job (output.Send request clock) input.SendFailed old new =
+IsDoneOn shares job (output.Call call) (input.Reply reply) old new = IsEntered call reply old new
+IsDoneOn shares job (output.Call call) input.Full old new = new ≡ old
+IsDoneOn shares job (output.Release write at) (input.Reply reply) old new =
+    IsEntered (back_of write at) reply old new
+IsDoneOn shares job (output.Release write at) input.Full old new = new ≡ old
+IsDoneOn shares job (output.Send request clock) input.SentAll old new =
+    new ≡ record old {
+      links = option_map (with_bytes (frame_spelling (request_frame job request))) old.links;
+    }
+IsDoneOn shares job (output.Send request clock) input.SendFailed old new =
     (new ≡ record old { links = new.links; faults = new.faults })
     × IsCutShort (frame_spelling (request_frame job request)) old.links new.links × Rose old.faults new.faults
-IsDone job output.Receive came old new =
+IsDoneOn shares job output.Receive came old new =
     (new ≡ record old { links = new.links; faults = new.faults; unread = new.unread }) × IsWaited came old new
-IsDone job output.HangUp input.HungUp old new =
+IsDoneOn shares job output.HangUp input.HungUp old new =
     new ≡ record old { links = option_map after_hang_up old.links; unread = [] }
-IsDone job (output.Rest ms) input.Rested old new = new ≡ old
-IsDone job output.Nothing input.Go old new = new ≡ old
-IsDone job output.Nothing input.NoRoom old new = new ≡ old
-IsDone job output came old new = ⊥
+IsDoneOn shares job (output.Rest ms) input.Rested old new = new ≡ old
+IsDoneOn shares job output.Nothing input.Go old new = new ≡ old
+IsDoneOn shares job output.Nothing input.NoRoom old new = new ≡ old
+IsDoneOn shares job output came old new = ⊥
 
 -- An output was done, and then those of these steps, each with the input of the next step. What the last one
 -- puts out is not done yet.
+abbrev pub AreDoneOn : (shares : Bool) → Job → Output → List RunStep → World → World → Type 0
+AreDoneOn shares job output [] old new = new ≡ old
+AreDoneOn shares job output (next ∷ later) old new =
+    (between : World) × IsDoneOn shares job output next.input old between
+    × AreDoneOn shares job next.output later between new
+
+-- The same on a line of one's own, as a worker has it.
+abbrev pub IsDone : Job → Output → Input → World → World → Type 0
+IsDone job output came old new = IsDoneOn false job output came old new
+
 abbrev pub AreDone : Job → Output → List RunStep → World → World → Type 0
-AreDone job output [] old new = new ≡ old
-AreDone job output (next ∷ later) old new =
-    (between : World) × IsDone job output next.input old between × AreDone job next.output later between new
+AreDone job output later old new = AreDoneOn false job output later old new

@@ -1,4 +1,5 @@
 pub mod Doing
+pub mod Lines
 pub mod Desks
 pub mod Worker
 pub mod Acts

@@ -1,5 +1,5 @@
 -- A worker, and one turn of it.
-use Rattle.std.specs.Prelude.{◌≡◌, ◌⊎◌, ℕ, List, [], ◌∷◌, ◌++◌, length}
+use Rattle.std.specs.Prelude.{◌≡◌, ◌⊎◌, ℕ, Bool, false, List, [], ◌∷◌, ◌++◌, length}
 use Rattle.std.specs.List.{AllByRecursion}
 use Rattle.ledger_desk.specs.Desk.{DeskTests}
 use Rattle.inverter_worker.specs.declared.job.Job.{Job}
@@ -13,7 +13,7 @@ use Rattle.inverter_worker.specs.Runs.{RunStep, LeadsTo, first_state, log}
 use Rattle.inverter_worker.specs.Turns.{IsWithinTurn, readings}
 use Rattle.worker_turn.specs.declared.worker.Turned.{Turned}
 use Rattle.worker_turn.specs.declared.worker.Turned.TheVariants as turned
-use Rattle.worker_turn.specs.Doing.{World, AreDone}
+use Rattle.worker_turn.specs.Doing.{World, AreDoneOn}
 use Rattle.worker_turn.specs.Desks.{IsTold}
 
 -- a worker: its job, where it stands, the requests that it sent so far, and the bytes that came on its link
@@ -43,17 +43,24 @@ Answers (turned.Over end) step = step ≡ Over end
 abbrev pub IsBegin : Input → Type 0
 IsBegin came = (came ≡ input.Go) ⊎ (came ≡ input.NoRoom)
 
--- One turn: a run of the table from the worker's state to its next, whose outputs were done, and whose
--- requests are those that the log has gained. The readings of the clock are the times that came, and the
--- desk, whose front went from one to another, passes the goals and the full book that came.
-pub record IsTurn (tests : DeskTests) (front front_now : ℕ) (before after : WorkerRecord) (old new : World)
-    : Type 0 where
+-- One turn, on a line that is shared or isn't: a run of the table from the worker's state to its next, whose
+-- outputs were done, and whose requests are those that the log has gained. The readings of the clock are the
+-- times that came, and the desk, whose front went from one to another, passes the goals and the full book
+-- that came.
+pub record IsTurnOn (shares : Bool) (tests : DeskTests) (front front_now : ℕ) (before after : WorkerRecord)
+    (old new : World) : Type 0 where
   pub first : RunStep
   pub later : List RunStep
   pub begins : IsBegin first.input
   pub within : AllByRecursion IsWithinTurn later
   pub leads : LeadsTo before.job before.state (first ∷ later) after.state
-  pub done : AreDone before.job first.output later old new
+  pub done : AreDoneOn shares before.job first.output later old new
   pub log : after.log ≡ before.log ++ log (first ∷ later)
   pub readings : new.readings ≡ readings (first ∷ later)
-  pub told : AllByRecursion (λ one. IsTold tests before.job.inverter (length old.made) front front_now one.input) later
+  pub told : AllByRecursion (λ one.
+      IsTold tests before.job.inverter (length old.made) front front_now one.input) later
+
+-- One turn of a worker, which has a line of its own.
+abbrev pub IsTurn : DeskTests → (front front_now : ℕ) → (before after : WorkerRecord) → (old new : World)
+    → Type 0
+IsTurn tests front front_now before after old new = IsTurnOn false tests front front_now before after old new

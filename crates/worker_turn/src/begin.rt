@@ -1,11 +1,10 @@
-//! How a turn begins, and what it answers.
+//! How a turn begins.
 ghost use Rattle.std.specs.Prelude.{◌≡◌, ◌+◌, ◌≤◌, vec_len, vec_capacity, Some};
 ghost use Rattle.inverter_worker.specs.declared.input.Input.{Input as Cause};
 ghost use Rattle.inverter_worker.specs.Table.{table};
-ghost use Rattle.worker_turn.specs.Worker.{Answers, IsBegin, IsBetweenTurns};
+ghost use Rattle.worker_turn.specs.Worker.{IsBegin};
 ghost use Rattle.worker_turn.specs.Acts.{Begins};
 
-use crate::worker::Turned;
 use inverter_worker::{Input, Job, Output, Sent, State, Step, worker_step};
 
 /// How many requests a turn sends at most.
@@ -27,15 +26,4 @@ pub(crate) fn begin(job: &Job, state: State, log: &mut Vec<Sent>) -> (State, Out
         Err(_) => Input::NoRoom,
     };
     worker_step(job, state, came)
-}
-
-/// Where a worker stands between two turns, as an answer.
-pub(crate) fn turned(step: Step) -> Turned
-    requires { IsBetweenTurns step }
-    ensures { Answers result step }
-{
-    match step {
-        Step::Over(end) => Turned::Over(end),
-        _ => Turned::Again,
-    }
 }

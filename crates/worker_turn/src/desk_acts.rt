@@ -1,8 +1,8 @@
 //! What is done with the ledger and with the clock.
-ghost use Rattle.std.specs.Prelude.{◌≡◌, ◌<◌, ◌≤◌, Some, length};
+ghost use Rattle.std.specs.Prelude.{◌≡◌, ◌<◌, ◌≤◌, Bool, Some, length};
 ghost use Rattle.world_traits.specs.Clocks.{AreGiven, moment_max, readings_max};
 ghost use Rattle.plant_ledger.specs.Opening.{ticket_for};
-ghost use Rattle.worker_turn.specs.Doing.{World, IsDone};
+ghost use Rattle.worker_turn.specs.Doing.{World, IsDoneOn};
 ghost use Rattle.ledger_desk.specs.Desk.{TestsLast};
 ghost use Rattle.worker_turn.specs.Desks.{IsPlain, IsToldNow, RollsNone};
 ghost use Rattle.worker_turn.specs.Acts.{IsOwnCall, ticket_after};
@@ -23,7 +23,7 @@ pub(crate) struct Came {
 /// Asks the ledger for the goal.
 pub(crate) fn ask_goal<D: Desk>(job: &Job, desk: &mut D) -> Input
     requires { job.now.inverter < (D.state desk.old).inverters }
-    ensures done { (rest : World) → IsDone job.now Output.Goal result
+    ensures done { (shares : Bool) (rest : World) → IsDoneOn shares job.now Output.Goal result
         (record rest { made = (D.state desk.old).made }) (record rest { made = (D.state desk.new).made }) }
     ensures told { IsToldNow (D.tests desk.new) job.now.inverter (D.state desk.new) result }
     ensures last { TestsLast (D.tests desk.old) (D.tests desk.new) }
@@ -42,7 +42,7 @@ pub(crate) fn make_call<D: Desk>(
 ) -> Came
     requires of_desk { job.now.inverter < (D.state desk.old).inverters }
     requires own { IsOwnCall job.now call }
-    ensures done { (rest : World) → IsDone job.now (Output.Call call) result.input
+    ensures done { (shares : Bool) (rest : World) → IsDoneOn shares job.now (Output.Call call) result.input
         (record rest { made = (D.state desk.old).made }) (record rest { made = (D.state desk.new).made }) }
     ensures told { IsToldNow (D.tests desk.new) job.now.inverter (D.state desk.new) result.input }
     ensures last { TestsLast (D.tests desk.old) (D.tests desk.new) }
@@ -67,7 +67,7 @@ pub(crate) fn give_back<D: Desk>(job: &Job, ticket: Ticket, at: u64, desk: &mut 
     requires of_desk { job.now.inverter < (D.state desk.old).inverters }
     requires own { ticket.inverter ≡ job.now.inverter }
     requires moment { at ≤ moment_max }
-    ensures done { (rest : World) → IsDone job.now (Output.Release ticket at) result
+    ensures done { (shares : Bool) (rest : World) → IsDoneOn shares job.now (Output.Release ticket at) result
         (record rest { made = (D.state desk.old).made }) (record rest { made = (D.state desk.new).made }) }
     ensures told { IsToldNow (D.tests desk.new) job.now.inverter (D.state desk.new) result }
     ensures last { TestsLast (D.tests desk.old) (D.tests desk.new) }
@@ -83,7 +83,7 @@ pub(crate) fn give_back<D: Desk>(job: &Job, ticket: Ticket, at: u64, desk: &mut 
 /// Reads the clock.
 pub(crate) fn read_clock<K: Clock>(job: &Job, watch: &mut Watch<'_, K>) -> Input
     requires { length watch.old.readings < readings_max }
-    ensures done { (rest : World) → IsDone job.now Output.Now result
+    ensures done { (shares : Bool) (rest : World) → IsDoneOn shares job.now Output.Now result
         (record rest { readings = watch.old.readings }) (record rest { readings = watch.new.readings }) }
     ensures plain { IsPlain result }
     ensures given { AreGiven (K.may_give watch.old.clock) watch.old.readings

@@ -27,14 +27,15 @@ ghost use Rattle.worker_turn.specs.Answered.{IsAnswered};
 
 /// The calls of a run with their replies, each at its own moment or a later one, are the entries that the desk gained.
 pub fn calls_are_entered()
-    ensures { (job : Job) (first : Output) (later : List RunStep) (old new : World) → AreDone job first later old new
-        → (gained : List Entry) × (new.made ≡ old.made ++ gained)
+    ensures { (job : Job) (first : Output) (later : List RunStep) (old new : World)
+        → AreDone job first later old new → (gained : List Entry) × (new.made ≡ old.made ++ gained)
         × AreEntriesOf (calls_made first later) gained }
 {}
 
 /// What failed is at most as often as the dialer counted faults, up to the last number of 64 bits.
 pub fn failures_are_counted()
-    ensures { (job : Job) (first : Output) (later : List RunStep) (old new : World) → AreDone job first later old new
+    ensures { (job : Job) (first : Output) (later : List RunStep) (old new : World)
+        → AreDone job first later old new
         → min (old.faults + length (failures later)) (2 ^ 64 - 1) ≤ new.faults }
 {}
 
@@ -43,7 +44,8 @@ pub fn failures_are_counted()
 pub fn links_are_the_jobs()
     ensures dialed { (job : Job) (first : Output) (later : List RunStep) (old new : World) (before : Links)
         → AreDone job first later old new → old.links ≡ Some before
-        → (after : Links) × (new.links ≡ Some after) × (endpoints after ≡ endpoints before ++ dialed job later) }
+        → (after : Links) × (new.links ≡ Some after)
+        × (endpoints after ≡ endpoints before ++ dialed job later) }
     ensures sent { (job : Job) (first : Output) (later : List RunStep) (old new : World) (before : List ℕ)
         → AreDone job first later old new → IsSent before old.links
         → (after : List ℕ) × AreSent job first later before after × IsSent after new.links }
@@ -106,7 +108,8 @@ pub fn links_are_up_at_each_receive()
 pub fn each_sight_has_its_frame()
     ensures each { (job : Job) (begun last : State) (sofar later : List RunStep) (at inverter number raw : ℕ)
         → begun.step ≡ Ready → LeadsTo job begun (sofar ++ later) last
-        → pending Nothing sofar ≡ Call (Saw at inverter number raw) → IsSeen job sofar at inverter number raw }
+        → pending Nothing sofar ≡ Call (Saw at inverter number raw)
+        → IsSeen job sofar at inverter number raw }
 
     // Each has a read and a frame of its own: those of a later one stand behind every earlier one.
     ensures own { (job : Job) (sofar between : List RunStep) (at inverter number raw : ℕ)

@@ -7,6 +7,7 @@
 mod begin;
 mod desk_acts;
 mod laws;
+mod line;
 mod link_acts;
 mod perform;
 mod turning;
@@ -17,4 +18,6 @@ pub use laws::{
     links_are_the_jobs, links_are_up_at_each_receive, requests_are_whole_before_a_receive,
     turns_are_runs, waits_end_as_answered,
 };
+pub use line::{Line, OwnLine};
+pub use turning::take_turn;
 pub use worker::{Turned, Worker};

@@ -1,50 +1,49 @@
 //! What is done with the link.
 ghost use Rattle.std.specs.Prelude.{◌≡◌, ◌<◌, ◌≤◌, length};
-ghost use Rattle.worker_turn.specs.Doing.{World, IsDone, request_frame};
+ghost use Rattle.worker_turn.specs.Doing.{World, IsDoneOn, request_frame};
 ghost use Rattle.worker_turn.specs.Desks.{IsPlain};
 ghost use Rattle.worker_turn.specs.Acts.{IsDoable};
 
-use frame_inbox::{Inbox, NoFrame};
+use crate::line::Line;
+use frame_inbox::NoFrame;
 use inverter_worker::{Asked, Input, Job, Output};
 use mbap_frames::{Frame, frame_bytes};
 use plant_ledger::Ticket;
 use readback::{read_request, write_request};
-use world_traits::{Dialer, send_whole};
 
 /// Makes a link, on which nothing came yet.
-pub(crate) fn make_link<N: Dialer>(job: &Job, inbox: &mut Inbox, dialer: &mut N) -> Input
-    ensures done { (rest : World) → IsDone job.now Output.Dial result
-        (record rest { links = N.links dialer.old; faults = N.faults dialer.old; unread = inbox.old })
-        (record rest { links = N.links dialer.new; faults = N.faults dialer.new; unread = inbox.new }) }
+pub(crate) fn make_link<L: Line>(job: &Job, line: &mut L) -> Input
+    ensures done { (rest : World) → IsDoneOn L.shares job.now Output.Dial result
+        (record rest { links = L.links line.old; faults = L.faults line.old; unread = L.unread line.old })
+        (record rest { links = L.links line.new; faults = L.faults line.new; unread = L.unread line.new }) }
     ensures plain { IsPlain result }
+    ensures kept { L.kept line.new ≡ L.kept line.old }
 {
     let host = job.port.host.as_str();
-    match dialer.dial(host, job.port.port, job.wait) {
-        Ok(()) => {
-            inbox.clear();
-            Input::Dialed
-        }
+    match line.dial(host, job.port.port, job.wait) {
+        Ok(()) => Input::Dialed,
         Err(_) => Input::DialFailed,
     }
 }
 
 /// Sends the frame of a request. That of a write uses its ticket up.
-pub(crate) fn send_request<N: Dialer>(
+pub(crate) fn send_request<L: Line>(
     job: &Job,
     request: Asked,
     clock: u64,
     ticket: Option<Ticket>,
-    dialer: &mut N,
+    line: &mut L,
 ) -> Input
     requires base { job.now.port.base ≤ 65514 }
     requires ticket { IsDoable job.now (Output.Send request clock) ticket }
-    ensures done { (rest : World) → IsDone job.now (Output.Send request clock) result
-        (record rest { links = N.links dialer.old; faults = N.faults dialer.old })
-        (record rest { links = N.links dialer.new; faults = N.faults dialer.new }) }
+    ensures done { (rest : World) → IsDoneOn L.shares job.now (Output.Send request clock) result
+        (record rest { links = L.links line.old; faults = L.faults line.old; unread = L.unread line.old })
+        (record rest { links = L.links line.new; faults = L.faults line.new; unread = L.unread line.new }) }
     ensures plain { IsPlain result }
+    ensures kept { L.kept line.new ≡ L.kept line.old }
 {
     let frame = frame_of(job, request, clock, ticket);
-    match send_whole(dialer, frame_bytes(&frame).as_slice()) {
+    match line.send_whole(frame_bytes(&frame).as_slice()) {
         Ok(()) => Input::SentAll,
         Err(_) => Input::SendFailed,
     }
@@ -67,13 +66,14 @@ fn frame_of(job: &Job, request: Asked, clock: u64, ticket: Option<Ticket>) -> Fr
 }
 
 /// Waits for a frame.
-pub(crate) fn wait_for_frame<N: Dialer>(job: &Job, inbox: &mut Inbox, dialer: &mut N) -> Input
-    ensures done { (rest : World) → IsDone job.now Output.Receive result
-        (record rest { links = N.links dialer.old; faults = N.faults dialer.old; unread = inbox.old })
-        (record rest { links = N.links dialer.new; faults = N.faults dialer.new; unread = inbox.new }) }
+pub(crate) fn wait_for_frame<L: Line>(job: &Job, line: &mut L) -> Input
+    ensures done { (rest : World) → IsDoneOn L.shares job.now Output.Receive result
+        (record rest { links = L.links line.old; faults = L.faults line.old; unread = L.unread line.old })
+        (record rest { links = L.links line.new; faults = L.faults line.new; unread = L.unread line.new }) }
     ensures plain { IsPlain result }
+    ensures kept { L.kept line.new ≡ L.kept line.old }
 {
-    match inbox.next_frame(dialer) {
+    match line.next_frame() {
         Ok(frame) => Input::Frame(frame),
         Err(NoFrame::Quiet) => Input::Quiet,
         Err(NoFrame::Closed) => Input::Closed,
@@ -83,13 +83,13 @@ pub(crate) fn wait_for_frame<N: Dialer>(job: &Job, inbox: &mut Inbox, dialer: &m
 }
 
 /// Takes the link down, and forgets what came on it.
-pub(crate) fn take_down<N: Dialer>(job: &Job, inbox: &mut Inbox, dialer: &mut N) -> Input
-    ensures done { (rest : World) → IsDone job.now Output.HangUp result
-        (record rest { links = N.links dialer.old; faults = N.faults dialer.old; unread = inbox.old })
-        (record rest { links = N.links dialer.new; faults = N.faults dialer.new; unread = inbox.new }) }
+pub(crate) fn take_down<L: Line>(job: &Job, line: &mut L) -> Input
+    ensures done { (rest : World) → IsDoneOn L.shares job.now Output.HangUp result
+        (record rest { links = L.links line.old; faults = L.faults line.old; unread = L.unread line.old })
+        (record rest { links = L.links line.new; faults = L.faults line.new; unread = L.unread line.new }) }
     ensures plain { IsPlain result }
+    ensures kept { L.kept line.new ≡ L.kept line.old }
 {
-    dialer.hang_up();
-    inbox.clear();
+    line.hang_up();
     Input::HungUp
 }

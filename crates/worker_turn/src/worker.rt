@@ -1,8 +1,8 @@
 ghost use Rattle.std.specs.Prelude.{◌≡◌, ◌<◌, ◌≤◌, [], length, MatchOption};
 ghost use Rattle.inverter_worker.specs.declared.state.End.{End as Ending};
 
-use crate::begin::{begin, turned};
-use crate::turning::go_on;
+use crate::line::OwnLine;
+use crate::turning::take_turn;
 use frame_inbox::Inbox;
 use inverter_worker::{End, Job, Sent, State, Step};
 use ledger_desk::Desk;
@@ -17,6 +17,21 @@ pub enum Turned {
     Again,
     /// The worker is over.
     Over(End),
+}
+
+impl Turned {
+    ghost use Rattle.worker_turn.specs.Worker.{Answers, IsBetweenTurns};
+
+    /// Where a worker stands between two turns, as an answer.
+    pub fn at(step: Step) -> Turned
+        requires { IsBetweenTurns step }
+        ensures { Answers result step }
+    {
+        match step {
+            Step::Over(end) => Turned::Over(end),
+            _ => Turned::Again,
+        }
+    }
 }
 
 /// The work of one inverter between its turns.
@@ -75,7 +90,8 @@ impl Worker {
 
     /// How the worker is over, or nothing while it is ready for a turn.
     pub fn end(&self) -> Option<End>
-        ensures { MatchOption result (self.now.state.step ≡ Step.Ready) (λ end. self.now.state.step ≡ Step.Over end) }
+        ensures { MatchOption result (self.now.state.step ≡ Step.Ready)
+            (λ end. self.now.state.step ≡ Step.Over end) }
     {
         match self.state.step {
             Step::Over(end) => Some(end),
@@ -135,10 +151,13 @@ impl Worker {
         if let Step::Over(end) = self.state.step {
             return Turned::Over(end);
         }
-        let begun = begin(&self.job, self.state, &mut self.log);
-        let (log, inbox) = (&mut self.log, &mut self.inbox);
-        let state = go_on(&self.job, begun, log, inbox, desk, dialer, watch);
+        let mut line = OwnLine {
+            dialer,
+            inbox: &mut self.inbox,
+        };
+        let (job, log) = (&self.job, &mut self.log);
+        let state = take_turn(job, self.state, log, desk, &mut line, watch);
         self.state = state;
-        turned(state.step)
+        Turned::at(state.step)
     }
 }

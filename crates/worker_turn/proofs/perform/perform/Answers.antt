@@ -9,13 +9,13 @@ use Rattle.worker_turn.proofs.perform.perform.Goals as goal
 
 pub returns-in-Goal-clause-done : goal.returns-in-Goal-clause-done
 returns-in-Goal-clause-done g c = rw (c.in-Goal.is, c.came.ensures.input)
-    (c.ask_goal.ensures.done (world_of (g.D.Desk.state c.args.desk.now).made (g.N.Dialer.links c.args.dialer.now)
-    (g.N.Dialer.faults c.args.dialer.now) c.args.watch.now.readings c.args.inbox.now))
+    (c.ask_goal.ensures.done g.L.Line.shares (world_of (g.D.Desk.state c.args.desk.now).made (g.L.Line.links c.args.line.now)
+    (g.L.Line.faults c.args.line.now) c.args.watch.now.readings (g.L.Line.unread c.args.line.now)))
 
 pub returns-in-Dial-clause-done : goal.returns-in-Dial-clause-done
 returns-in-Dial-clause-done g c = rw (c.in-Dial.is, c.came-in-Dial.ensures.input)
-    (c.make_link.ensures.done (world_of (g.D.Desk.state c.args.desk.now).made (g.N.Dialer.links c.args.dialer.now)
-    (g.N.Dialer.faults c.args.dialer.now) c.args.watch.now.readings c.args.inbox.now))
+    (c.make_link.ensures.done (world_of (g.D.Desk.state c.args.desk.now).made (g.L.Line.links c.args.line.now)
+    (g.L.Line.faults c.args.line.now) c.args.watch.now.readings (g.L.Line.unread c.args.line.now)))
 
 pub returns-in-Dial-clause-told : goal.returns-in-Dial-clause-told
 returns-in-Dial-clause-told g c = rw c.came-in-Dial.ensures.input
@@ -24,8 +24,8 @@ returns-in-Dial-clause-told g c = rw c.came-in-Dial.ensures.input
 
 pub returns-in-Now-clause-done : goal.returns-in-Now-clause-done
 returns-in-Now-clause-done g c = rw (c.in-Now.is, c.came-in-Now.ensures.input)
-    (c.read_clock.ensures.done (world_of (g.D.Desk.state c.args.desk.now).made (g.N.Dialer.links c.args.dialer.now)
-    (g.N.Dialer.faults c.args.dialer.now) c.args.watch.now.readings c.args.inbox.now))
+    (c.read_clock.ensures.done g.L.Line.shares (world_of (g.D.Desk.state c.args.desk.now).made (g.L.Line.links c.args.line.now)
+    (g.L.Line.faults c.args.line.now) c.args.watch.now.readings (g.L.Line.unread c.args.line.now)))
 
 pub returns-in-Now-clause-told : goal.returns-in-Now-clause-told
 returns-in-Now-clause-told g c = rw c.came-in-Now.ensures.input
@@ -34,8 +34,8 @@ returns-in-Now-clause-told g c = rw c.came-in-Now.ensures.input
 
 pub returns-in-Call-clause-done : goal.returns-in-Call-clause-done
 returns-in-Call-clause-done g c = rw c.in-Call.is
-    (c.make_call.ensures.done (world_of (g.D.Desk.state c.args.desk.now).made (g.N.Dialer.links c.args.dialer.now)
-    (g.N.Dialer.faults c.args.dialer.now) c.args.watch.now.readings c.args.inbox.now))
+    (c.make_call.ensures.done g.L.Line.shares (world_of (g.D.Desk.state c.args.desk.now).made (g.L.Line.links c.args.line.now)
+    (g.L.Line.faults c.args.line.now) c.args.watch.now.readings (g.L.Line.unread c.args.line.now)))
 
 pub returns-in-Some-clause-done : goal.returns-in-Some-clause-done
 returns-in-Some-clause-done g c =
@@ -45,13 +45,13 @@ returns-in-Some-clause-done g c =
     let is : c.args.output ≡ output.Release c.in-Some.ticket c.in-Release.at =
     c.in-Release.is ∙ ap (λ (w : writes.Write). output.Release w c.in-Release.at) same in
     rw (is, c.came-in-Some.ensures.input)
-    (c.give_back.ensures.done (world_of (g.D.Desk.state c.args.desk.now).made (g.N.Dialer.links c.args.dialer.now)
-    (g.N.Dialer.faults c.args.dialer.now) c.args.watch.now.readings c.args.inbox.now))
+    (c.give_back.ensures.done g.L.Line.shares (world_of (g.D.Desk.state c.args.desk.now).made (g.L.Line.links c.args.line.now)
+    (g.L.Line.faults c.args.line.now) c.args.watch.now.readings (g.L.Line.unread c.args.line.now)))
 
 pub returns-in-Send-clause-done : goal.returns-in-Send-clause-done
 returns-in-Send-clause-done g c = rw (c.in-Send.is, c.came-in-Send.ensures.input)
-    (c.send_request.ensures.done (world_of (g.D.Desk.state c.args.desk.now).made (g.N.Dialer.links c.args.dialer.now)
-    (g.N.Dialer.faults c.args.dialer.now) c.args.watch.now.readings c.args.inbox.now))
+    (c.send_request.ensures.done (world_of (g.D.Desk.state c.args.desk.now).made (g.L.Line.links c.args.line.now)
+    (g.L.Line.faults c.args.line.now) c.args.watch.now.readings (g.L.Line.unread c.args.line.now)))
 
 pub returns-in-Send-clause-told : goal.returns-in-Send-clause-told
 returns-in-Send-clause-told g c = rw c.came-in-Send.ensures.input
@@ -60,8 +60,8 @@ returns-in-Send-clause-told g c = rw c.came-in-Send.ensures.input
 
 pub returns-in-Receive-clause-done : goal.returns-in-Receive-clause-done
 returns-in-Receive-clause-done g c = rw (c.in-Receive.is, c.came-in-Receive.ensures.input)
-    (c.wait_for_frame.ensures.done (world_of (g.D.Desk.state c.args.desk.now).made (g.N.Dialer.links c.args.dialer.now)
-    (g.N.Dialer.faults c.args.dialer.now) c.args.watch.now.readings c.args.inbox.now))
+    (c.wait_for_frame.ensures.done (world_of (g.D.Desk.state c.args.desk.now).made (g.L.Line.links c.args.line.now)
+    (g.L.Line.faults c.args.line.now) c.args.watch.now.readings (g.L.Line.unread c.args.line.now)))
 
 pub returns-in-Receive-clause-told : goal.returns-in-Receive-clause-told
 returns-in-Receive-clause-told g c = rw c.came-in-Receive.ensures.input
@@ -70,8 +70,8 @@ returns-in-Receive-clause-told g c = rw c.came-in-Receive.ensures.input
 
 pub returns-in-HangUp-clause-done : goal.returns-in-HangUp-clause-done
 returns-in-HangUp-clause-done g c = rw (c.in-HangUp.is, c.came-in-HangUp.ensures.input)
-    (c.take_down.ensures.done (world_of (g.D.Desk.state c.args.desk.now).made (g.N.Dialer.links c.args.dialer.now)
-    (g.N.Dialer.faults c.args.dialer.now) c.args.watch.now.readings c.args.inbox.now))
+    (c.take_down.ensures.done (world_of (g.D.Desk.state c.args.desk.now).made (g.L.Line.links c.args.line.now)
+    (g.L.Line.faults c.args.line.now) c.args.watch.now.readings (g.L.Line.unread c.args.line.now)))
 
 pub returns-in-HangUp-clause-told : goal.returns-in-HangUp-clause-told
 returns-in-HangUp-clause-told g c = rw c.came-in-HangUp.ensures.input

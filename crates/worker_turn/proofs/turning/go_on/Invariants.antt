@@ -14,12 +14,13 @@ use Rattle.worker_turn.proofs.turning.go_on.Given as goal
 abbrev pub invariant-loop-output : goal.invariant-loop-output
 invariant-loop-output g l = record {
   later : List RunStep;
-  follows : Follows (g.D.Desk.tests l.desk) (g.D.Desk.state l.fn.desk).front (g.D.Desk.state l.desk).front l.job l.fn.begun.0 l.fn.begun.1 later l.state l.output l.fn.log.items l.log.items
-      (world_of (g.D.Desk.state l.fn.desk).made (g.N.Dialer.links l.fn.dialer) (g.N.Dialer.faults l.fn.dialer) l.fn.watch.readings l.fn.inbox)
-      (world_of (g.D.Desk.state l.desk).made (g.N.Dialer.links l.dialer) (g.N.Dialer.faults l.dialer) l.watch.readings l.inbox);
+  follows : Follows g.L.Line.shares (g.D.Desk.tests l.desk) (g.D.Desk.state l.fn.desk).front (g.D.Desk.state l.desk).front l.job l.fn.begun.0 l.fn.begun.1 later l.state l.output l.fn.log.items l.log.items
+      (world_of (g.D.Desk.state l.fn.desk).made (g.L.Line.links l.fn.line) (g.L.Line.faults l.fn.line) l.fn.watch.readings (g.L.Line.unread l.fn.line))
+      (world_of (g.D.Desk.state l.desk).made (g.L.Line.links l.line) (g.L.Line.faults l.line) l.watch.readings (g.L.Line.unread l.line));
   last : TestsLast (g.D.Desk.tests l.fn.desk) (g.D.Desk.tests l.desk);
   stays : RollsNone (g.D.Desk.state l.fn.desk) (g.D.Desk.state l.desk);
   kept : g.D.Desk.kept l.desk ≡ g.D.Desk.kept l.fn.desk;
+  line : g.L.Line.kept l.line ≡ g.L.Line.kept l.fn.line;
   ticket : l.ticket ≡ held l.state.step;
   clock : l.watch.clock ≡ l.fn.watch.clock;
   given : AreGiven (g.K.Clock.may_give l.fn.watch.clock) l.watch.readings;
