@@ -13,3 +13,5 @@ mod shared_desk;
 mod table;
 #[cfg(test)]
 mod turns;
+#[cfg(test)]
+mod twelve;

@@ -11,5 +11,6 @@ mod report;
 mod run;
 
 pub use laws::runs_replay_as_their_lives;
+pub use opening::{Opening, open_site};
 pub use report::{Finish, finish_of, run_text, wrote_whole};
 pub use run::{Ran, run_site};

@@ -64,7 +64,8 @@ fn workers_of(
     Ok(workers)
 }
 
-/// The ledger of a site, whose life begins at a moment in ms, and its workers before their first turns.
+/// The ledger of a site, whose life begins at a moment in ms, and the worker of each inverter in their order, before its
+/// first of so many turns.
 pub fn open_site(alloc: Global, file: SiteFile, turns: u32, start: u64) -> Result<Opening, NoMemory>
     requires openable { IsOpenable file.site }
     requires in_range { IsInRange file }
