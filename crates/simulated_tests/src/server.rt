@@ -27,21 +27,13 @@ fn bank(rt: &impl Abort) -> Result<Bank, Fail>
     Ok(Bank::new(unit, rules, 1, after))
 }
 
-/// Serves over one link that plays these moves, in so many turns, by a clock that goes on by so many ms at each
-/// reading.
-fn served(
+/// Serves over this dialer, in so many turns, by a clock that goes on by so many ms at each reading.
+fn serve_over(
     rt: &impl Abort,
-    alloc: Global,
-    moves: Vec<Move>,
+    mut dialer: PlayDialer,
     turns: u32,
     step: u64,
 ) -> Result<PlayDialer, Fail> {
-    let link = PlayLink {
-        takes: 1_000,
-        moves,
-    };
-    let links = vec![in alloc; link]?;
-    let mut dialer = PlayDialer::new(alloc, links, Vec::new(alloc));
     let port = Port {
         host: ArrayString::from("localhost").ok().ok_or("host")?,
         port: 5_020,
@@ -57,6 +49,23 @@ fn served(
         &StepClock::new(0, step),
     );
     Ok(dialer)
+}
+
+/// Serves over one link that plays these moves.
+fn served(
+    rt: &impl Abort,
+    alloc: Global,
+    moves: Vec<Move>,
+    turns: u32,
+    step: u64,
+) -> Result<PlayDialer, Fail> {
+    let link = PlayLink {
+        takes: 1_000,
+        moves,
+    };
+    let links = vec![in alloc; link]?;
+    let dialer = PlayDialer::new(alloc, links, Vec::new(alloc));
+    serve_over(rt, dialer, turns, step)
 }
 
 /// Looks at the one link: what was sent on it, and how many receives it had.
@@ -146,4 +155,31 @@ fn one_receive_takes_a_piece_of_260_bytes(rt: HostRuntime) -> Result<(), Fail> {
     piece.extend_from_slice(&READ[..8])?;
     let moves = vec![in rt.alloc(); Move::Bytes(piece)]?;
     assert_link(&rt, &served(&rt, rt.alloc(), moves, 2, 1)?, &sent, 1)
+}
+
+/// A link on which two reads come in one piece.
+fn two_reads(alloc: Global) -> Result<PlayLink, Fail> {
+    let mut piece = Vec::from_slice(alloc, &READ)?;
+    piece.extend_from_slice(&READ)?;
+    let moves = vec![in alloc; Move::Bytes(piece)]?;
+    Ok(PlayLink {
+        takes: 1_000,
+        moves,
+    })
+}
+
+#[test]
+fn nothing_is_sent_on_a_link_after_a_failed_send(rt: HostRuntime) -> Result<(), Fail> {
+    let alloc = rt.alloc();
+    // The calls are a dial, a receive, and the send of the first answer, which fails.
+    let links = vec![in alloc; two_reads(alloc)?, two_reads(alloc)?]?;
+    let dialer = PlayDialer::new(alloc, links, vec![in alloc; 2]?);
+    let dialer = serve_over(&rt, dialer, 4, 1)?;
+    let log = dialer.log();
+    let (first, second) = (log.link(0).ok_or("link 1")?, log.link(1).ok_or("link 2")?);
+    assert!(rt; first.sent().is_empty() && first.answers() == 1);
+    let mut both = Vec::from_slice(alloc, &REPLY)?;
+    both.extend_from_slice(&REPLY)?;
+    assert_eq!(rt; second.sent(), both.as_slice());
+    Ok(())
 }
