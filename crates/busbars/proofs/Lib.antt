@@ -1,0 +1,5 @@
+pub mod Nesting
+pub mod Members
+pub mod Lists
+pub mod Raises
+pub mod Under

@@ -1,0 +1,7 @@
+use Rattle.plant_book.specs.Reserved.{reserved}
+use Rattle.plant_book.specs.Part.{first_book}
+use Rattle.busbars.specs.Sums.{AreSums}
+use Rattle.busbars.proofs.sums.reserved_below.Given as goal
+
+abbrev pub invariant-loop-inverter : goal.invariant-loop-inverter
+invariant-loop-inverter l = AreSums l.inverter (reserved (first_book l.plant)) l.sums
