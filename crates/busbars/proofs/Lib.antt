@@ -3,3 +3,4 @@ pub mod Members
 pub mod Lists
 pub mod Raises
 pub mod Under
+pub mod Asking

@@ -99,15 +99,22 @@ members_raise site b i d f g others one =
     (elim (cases_Bool (holds b i)) [ inl on ↦ rw on one | inr off ↦ rw off (omega arith) ])
 
 -- the sums of no inverter, and of one more
-pub sums_none : (number : ℕ → ℕ) (sums : List ℕ) → slice_index sums 0 ≡ 0 → AreSums 0 number sums
+pub no_sum : (number : ℕ → ℕ) → 0 ≡ sum_below 0 number
 unfolding sum_below
-sums_none number sums first below le =
-    let none : below ≡ 0 = omega arith in
-    subst (λ (k : ℕ). slice_index sums k ≡ sum_below k number) (sym none) first
+no_sum number = refl
+
+pub sum_more : (count : ℕ) (number : ℕ → ℕ) → sum_below (count + 1) number ≡ sum_below count number + number count
+unfolding sum_below
+sum_more count number = ap (λ (k : ℕ). sum_below k number) (add-one count)
+
+-- sums of the same numbers are the same
+pub sum_below_same : (n : ℕ) (f g : ℕ → ℕ) → ((k : ℕ) → f k ≡ g k) → sum_below n f ≡ sum_below n g
+unfolding sum_below
+sum_below_same zero f g same = refl
+sum_below_same (suc n) f g same = omega (arith, sum_below_same n f g same, same n)
 
 pub sums_push : (count : ℕ) (number : ℕ → ℕ) (sums : List ℕ) (one : ℕ) → AreSums count number sums → count + 1 < length sums → one ≡ number count
     → AreSums (count + 1) number (slice_set sums (count + 1) (slice_index sums count + one))
-unfolding sum_below
 sums_push count number sums one are within is below le =
     elim (cases_eq below (count + 1)) [
       | inl last ↦
@@ -116,7 +123,8 @@ sums_push count number sums one are within is below le =
             ap (λ (k : ℕ). slice_index (slice_set sums (count + 1) (slice_index sums count + one)) k) last,
             get_or-set_same sums (count + 1) (slice_index sums count + one) 0 within,
             are count (omega arith),
-            ap (λ (k : ℕ). sum_below k number) (last ∙ add-one),
+            ap (λ (k : ℕ). sum_below k number) last,
+            sum_more count number,
             is,
           )
       | inr other ↦ get_or-set_other sums (count + 1) below (slice_index sums count + one) 0 other ∙ are below (omega arith)
@@ -129,3 +137,6 @@ reserved_low plant kept first n le =
     let book = first_book plant in
     let is = (behind_nothing plant kept.of_life first).book in
     omega (arith, total_at-capped book is (now_of book) (omega arith), is.openable.checked.cap, sum_below_grows n (inverters plant.site) (reserved book) le)
+
+pub few_inverters : (plant : PartRecord) → IsKept plant → plant.carry ≡ None → inverters plant.site ≤ 64
+few_inverters plant kept first = (behind_nothing plant kept.of_life first).book.openable.few

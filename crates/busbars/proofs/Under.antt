@@ -37,7 +37,8 @@ use Rattle.busbars.specs.Buses.{holds, floors_of, Fits, EachFits}
 use Rattle.busbars.specs.Caps.{reserved_on, left_on, asked_more, LacksRoom, HasRoomOnAll, ReservesUnderCaps, HoldsUnder, HoldsUnderCaps}
 use Rattle.busbars.specs.Applied.{IsThePlants, IsAsked, IsAskedBehindTick, IsPlain, IsApplied}
 use Rattle.busbars.proofs.Lists.{all_both, all_weaker, each_that_fits}
-use Rattle.busbars.proofs.Members.{members_le, members_raise}
+use Rattle.busbars.specs.Sums.{AreSums}
+use Rattle.busbars.proofs.Members.{members_le, members_raise, sum_below_same}
 use Rattle.busbars.proofs.Raises.{no_more, raised, grant_is_its_own, grant_is_no_others, no_grant, granted_is_asked}
 
 -- what the members hold is at most what they have reserved
@@ -196,3 +197,44 @@ module _ (buses : List bus.Bus) where
         | inr ticked ↦ behind_tick_under at inverter raw result ticked.0 new ticked.3 (plain_under (calls.Tick at) (Ok ticked.1) old ticked.0 tt ticked.2 under)
       ]
   applied_under call result old new applied under = plain_call_under call result old new tt applied under
+
+-- A call leaves the site, and no carry.
+pub record IsSameLife (old new : PartRecord) : Type 0 where
+  pub site : new.site ≡ old.site
+  pub carry : new.carry ≡ old.carry
+
+pub plants_same : (call : Call) (result : Result Outcome BookFull) (old new : PartRecord) → IsThePlants call result old new → IsSameLife old new
+plants_same call (Ok outcome) old new plants = record { site = ap (λ (part : PartRecord). part.site) plants.1; carry = ap (λ (part : PartRecord). part.carry) plants.1 }
+plants_same call (Err full) old new plants = record { site = ap (λ (part : PartRecord). part.site) plants.2; carry = ap (λ (part : PartRecord). part.carry) plants.2 }
+
+behind_tick_same : (buses : List bus.Bus) (at inverter raw : ℕ) (result : Result BusReply BookFull) (old new : PartRecord) → IsAsked buses at inverter raw result old new → IsSameLife old new
+behind_tick_same buses at inverter raw (Ok (told.BusFull place left)) old new asked = record { site = ap (λ (part : PartRecord). part.site) asked.0; carry = ap (λ (part : PartRecord). part.carry) asked.0 }
+behind_tick_same buses at inverter raw (Ok (told.Plain outcome)) old new asked = plants_same (calls.Ask at inverter raw) (Ok outcome) old new asked.1
+behind_tick_same buses at inverter raw (Err full) old new asked = plants_same (calls.Ask at inverter raw) (Err full) old new asked.1
+
+plain_same : (call : Call) (result : Result BusReply BookFull) (old new : PartRecord) → IsPlain call result old new → IsSameLife old new
+plain_same call (Ok (told.Plain outcome)) old new plain = plants_same call (Ok outcome) old new plain
+plain_same call (Ok (told.BusFull place left)) old new plain = absurd plain
+plain_same call (Err full) old new plain = plants_same call (Err full) old new plain
+
+pub applied_same : (buses : List bus.Bus) (call : Call) (result : Result BusReply BookFull) (old new : PartRecord) → IsApplied buses call result old new → IsSameLife old new
+applied_same buses (calls.Ask at inverter raw) result old new applied =
+    elim applied [
+      | inl full ↦ plants_same (calls.Tick at) (Err full.0) old new full.2
+      | inr ticked ↦
+          let first = plants_same (calls.Tick at) (Ok ticked.1) old ticked.0 ticked.2 in
+          let then = behind_tick_same buses at inverter raw result ticked.0 new ticked.3 in
+          record { site = then.site ∙ first.site; carry = then.carry ∙ first.carry }
+    ]
+applied_same buses call result old new applied = plain_same call result old new applied
+
+-- what is so of the first book of a life is so of each joined book that goes on in it
+pub each_book : (P : BookRecord → Type 0) (part : PartRecord) → part.carry ≡ None → P (first_book part) → EachBook part P
+each_book P part none fact before behind = subst (λ (es : List Entry). P (book_behind es part)) (sym (nothing_before part before behind none)) fact
+
+-- a plant without a call fits its buses
+pub fitting_each : (buses : List bus.Bus) (part : PartRecord) → part.entries ≡ [] → part.carry ≡ None → EachFits part.site [] buses → EachBook part (ReservesUnderCaps buses)
+fitting_each buses part none first fit = each_book (ReservesUnderCaps buses) part first (fitting_under buses (first_book part) none fit)
+
+pub floors_are : (plant : PartRecord) (sums : List ℕ) → plant.entries ≡ [] → AreSums (inverters plant.site) (reserved (first_book plant)) sums → AreSums (inverters plant.site) (floor_at plant.site) sums
+floors_are plant sums none are below le = are below le ∙ sum_below_same below (reserved (first_book plant)) (floor_at plant.site) (λ k. floors_alone (first_book plant) none k)

@@ -10,9 +10,11 @@ returns-then-ends_within c =
 pub returns-else-ends_within : goal.returns-else-ends_within
 returns-else-ends_within c =
     let one = c.args.self.now in
-    let other = c.args.other.now in
-    (λ is. crosses_back other one (crosses_from other one (c.ends_within-else-ends_within.ensures.0 is)), λ crosses.
-    elim (ends_within_from one other crosses) [
-      | inl ends ↦ absurd (false≢true (sym c.if-ends_within.false ∙ c.ends_within.ensures.1 ends))
-      | inr ends ↦ c.ends_within-else-ends_within.ensures.1 ends
-    ])
+    let other = c.args.other.now in (
+      λ is. crosses_back other one (crosses_from other one (c.ends_within-else-ends_within.ensures.0 is)),
+      λ crosses.
+          elim (ends_within_from one other crosses) [
+            | inl ends ↦ absurd (false≢true (sym c.if-ends_within.false ∙ c.ends_within.ensures.1 ends))
+            | inr ends ↦ c.ends_within-else-ends_within.ensures.1 ends
+          ],
+    )
