@@ -38,9 +38,10 @@ IsThePlants call (Ok outcome) old new =
 IsThePlants call (Err full) old new =
     (full.calls ≡ length old.entries) × (full.calls ≡ old.site.room) × (new ≡ old)
 
--- what comes of an Ask behind its Tick: the first bus that lacks the room, and the Ask isn't entered; or, where none
--- lacks it, the Ask is the plant's
-abbrev pub IsAsked : List bus.Bus → (at inverter raw : ℕ) → Result BusReply BookFull → PartRecord → PartRecord → Type 0
+-- what comes of an Ask behind its Tick: the first bus that lacks the room, and the Ask isn't entered; or, where
+-- none lacks it, the Ask is the plant's
+abbrev pub IsAsked : List bus.Bus → (at inverter raw : ℕ) → Result BusReply BookFull
+    → PartRecord → PartRecord → Type 0
 IsAsked buses at inverter raw (Ok (replies.BusFull place left)) old new =
     (new ≡ old) × EachBook old (λ whole. IsFirstFull whole buses inverter raw place left)
 IsAsked buses at inverter raw (Ok (replies.Plain outcome)) old new =
@@ -51,8 +52,8 @@ IsAsked buses at inverter raw (Err full) old new =
     × IsThePlants (calls.Ask at inverter raw) (Err full) old new
 
 -- An Ask enters a Tick of its moment first. Where the book is full already, that is all.
-abbrev pub IsAskedBehindTick : List bus.Bus → (at inverter raw : ℕ) → Result BusReply BookFull → PartRecord → PartRecord
-    → Type 0
+abbrev pub IsAskedBehindTick : List bus.Bus → (at inverter raw : ℕ) → Result BusReply BookFull
+    → PartRecord → PartRecord → Type 0
 IsAskedBehindTick buses at inverter raw result old new =
     ((full : BookFull) × (result ≡ Err full) × IsThePlants (calls.Tick at) (Err full) old new)
     ⊎ ((ticked : PartRecord) × (outcome : Outcome) × IsThePlants (calls.Tick at) (Ok outcome) old ticked
@@ -66,5 +67,6 @@ IsPlain call (Err full) old new = IsThePlants call (Err full) old new
 
 -- what comes of a call
 abbrev pub IsApplied : List bus.Bus → Call → Result BusReply BookFull → PartRecord → PartRecord → Type 0
-IsApplied buses (calls.Ask at inverter raw) result old new = IsAskedBehindTick buses at inverter raw result old new
+IsApplied buses (calls.Ask at inverter raw) result old new =
+    IsAskedBehindTick buses at inverter raw result old new
 IsApplied buses call result old new = IsPlain call result old new

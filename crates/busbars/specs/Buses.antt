@@ -14,7 +14,8 @@ holds bus inverter = nat_le bus.lo inverter && nat_le inverter bus.hi
 
 -- the sum of a number over the members of a bus
 abbrev pub sum_of_members : SiteRecord → bus.Bus → (ℕ → ℕ) → ℕ
-sum_of_members site bus number = sum_below (inverters site) (λ inverter. if holds bus inverter then number inverter else 0)
+sum_of_members site bus number = sum_below (inverters site)
+    (λ inverter. if holds bus inverter then number inverter else 0)
 
 -- what the members reserve at the least, in milliwatts
 abbrev pub floors_of : SiteRecord → bus.Bus → ℕ

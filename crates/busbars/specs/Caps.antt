@@ -23,11 +23,13 @@ left_on book bus = bus.cap - reserved_on book bus
 
 -- what a limit asks for beyond what the inverter has reserved
 abbrev pub asked_more : BookRecord → (inverter raw : ℕ) → ℕ
-asked_more book inverter raw = max (reserved book inverter) (mw_at book.site inverter raw) - reserved book inverter
+asked_more book inverter raw = max (reserved book inverter) (mw_at book.site inverter raw)
+    - reserved book inverter
 
 -- the bus holds the inverter, and less is left on it than the limit asks for
 abbrev pub LacksRoom : BookRecord → (inverter raw : ℕ) → bus.Bus → Type 0
-LacksRoom book inverter raw bus = (holds bus inverter ≡ true) × (left_on book bus < asked_more book inverter raw)
+LacksRoom book inverter raw bus = (holds bus inverter ≡ true)
+    × (left_on book bus < asked_more book inverter raw)
 
 -- no bus that holds the inverter lacks the room
 abbrev pub HasRoomOnAll : BookRecord → List bus.Bus → (inverter raw : ℕ) → Type 0
@@ -48,8 +50,8 @@ pub record IsFirstFull (book : BookRecord) (buses : List bus.Bus) (inverter raw 
 abbrev pub ReservesUnderCaps : List bus.Bus → BookRecord → Type 0
 ReservesUnderCaps buses book = AllByRecursion (λ bus. reserved_on book bus ≤ bus.cap) buses
 
--- Whatever the members of a bus did that follow the timed device: at each choice of cuts at a moment from the last
--- one of the history on, their limits sum to at most the cap of the bus.
+-- Whatever the members of a bus did that follow the timed device: at each choice of cuts at a moment from the
+-- last one of the history on, their limits sum to at most the cap of the bus.
 abbrev pub HoldsUnder : History → bus.Bus → Type 0
 HoldsUnder history bus = (events first rest : ℕ → List Timed) (at : ℕ)
     → ((inverter : ℕ) → inverter < inverters history.life.site → holds bus inverter ≡ true
@@ -57,10 +59,11 @@ HoldsUnder history bus = (events first rest : ℕ → List Timed) (at : ℕ)
     → now_of history.life ≤ at
     → ((inverter : ℕ) → inverter < inverters history.life.site → holds bus inverter ≡ true
     → IsCut (events inverter) at (first inverter) (rest inverter))
-    → sum_of_members history.life.site bus (λ inverter. held_mw history.life.site inverter (first inverter)) ≤ bus.cap
+    → sum_of_members history.life.site bus
+    (λ inverter. held_mw history.life.site inverter (first inverter)) ≤ bus.cap
 
--- This is so of each bus, in every history that ends with this book: behind the silence of its life, or where there
--- was no life and no write before it.
+-- This is so of each bus, in every history that ends with this book: behind the silence of its life, or where
+-- there was no life and no write before it.
 abbrev pub HoldsUnderCaps : List bus.Bus → BookRecord → Type 0
 HoldsUnderCaps buses book = (history : History) → IsHistory history → history.life ≡ book
     → (silent_until book < now_of book) ⊎ IsOneLife history → AllByRecursion (HoldsUnder history) buses

@@ -39,8 +39,8 @@ pub fn enter(plant: &mut Plant, buses: &[Bus], call: Call) -> Result<BusReply, B
     }
 }
 
-/// The place of the first bus that holds the inverter and has less left than the limit asks for, and what is left on
-/// it in mW, if there is one.
+/// The place of the first bus that holds the inverter and has less left than the limit asks for, and what is left
+/// on it in mW, if there is one.
 fn first_full(plant: &Plant, buses: &[Bus], inverter: u8, raw: u16) -> Option<(u32, u64)>
     requires kept { IsKept plant.now }
     requires first { plant.now.carry ≡ None }

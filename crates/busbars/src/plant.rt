@@ -48,8 +48,8 @@ impl Model for BusPlant {
 }
 
 impl BusPlant {
-    /// A plant with these buses, of which it has 32 at most, each with a cap of at most 10^14 mW. The plant has no call
-    /// yet. A refusal drops it.
+    /// A plant with these buses, of which it has 32 at most, each with a cap of at most 10^14 mW. The plant has
+    /// no call yet. A refusal drops it.
     pub fn new(plant: Plant, buses: Vec<Bus>) -> Result<BusPlant, BusFault>
         requires no_call { plant.entries ≡ [] }
         requires first { plant.carry ≡ None }
@@ -71,8 +71,8 @@ impl BusPlant {
         }
     }
 
-    /// Enters a call and answers it. An Ask first enters a Tick of its moment; it is entered, and the plant's to answer,
-    /// where each bus that holds the inverter has the room.
+    /// Enters a call and answers it. An Ask first enters a Tick of its moment; it is entered, and the plant's to
+    /// answer, where each bus that holds the inverter has the room.
     pub fn apply(&mut self, call: Call) -> Result<BusReply, BookFull>
         requires moment { moment call ≤ MOMENT_MAX }
         requires of_site { IfSome (named call) (λ inverter. inverter < inverters self.old.book.site) }
@@ -80,8 +80,8 @@ impl BusPlant {
         ensures applied { IsApplied self.old.buses call result self.old.book self.new.book }
         ensures buses { self.new.buses ≡ self.old.buses }
 
-        // After each call, of every bus: what its inverters have reserved is at most its cap. Behind the silence, and in
-        // the first life of a plant, so is what they hold.
+        // After each call, of every bus: what its inverters have reserved is at most its cap. Behind the silence,
+        // and in the first life of a plant, so is what they hold.
         ensures under { EachBook self.new.book (ReservesUnderCaps self.new.buses) }
         ensures holds { EachBook self.new.book (HoldsUnderCaps self.new.buses) }
 

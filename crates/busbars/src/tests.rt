@@ -3,7 +3,7 @@ ghost use Rattle.std.specs.List.{AllByRecursion};
 
 use super::*;
 use limiter_num::{Rating, Rules};
-use plant_book::{Call, MOMENT_MAX, Policy, Reply, Site, Unit};
+use plant_book::{CAP_MAX, Call, MOMENT_MAX, Policy, Reply, Site, Unit};
 use plant_ledger::{BookFull, Plant};
 use std::alloc::Global;
 use std::process::Abort;
@@ -29,24 +29,30 @@ fn bus(cap: u64, lo: u8, hi: u8) -> Bus {
     Bus { cap, lo, hi }
 }
 
-/// The fault of a bus for three inverters, behind another.
-fn fault(alloc: Global, first: Bus, second: Bus) -> Option<Option<BusFault>>
-    requires first { first.cap ≤ 10 ^ 14 }
-    requires second { second.cap ≤ 10 ^ 14 }
-{
-    let plant = plant_of(alloc, 3, 1_000)?;
+/// So many inverters with two buses, or how the buses are refused.
+fn made(
+    alloc: Global,
+    count: usize,
+    room: u32,
+    first: Bus,
+    second: Bus,
+) -> Option<Result<BusPlant, BusFault>> {
+    let plant = plant_of(alloc, count, room)?;
+    if first.cap > CAP_MAX || second.cap > CAP_MAX {
+        return None;
+    }
     let buses = vec![in alloc; first, second].ok()?;
-    Some(BusPlant::new(plant, buses).err())
+    Some(BusPlant::new(plant, buses))
+}
+
+/// How two buses for three inverters are refused.
+fn fault(alloc: Global, first: Bus, second: Bus) -> Option<BusFault> {
+    made(alloc, 3, 1_000, first, second)?.err()
 }
 
 /// The plant of two linked inverters with these buses.
-fn linked(rt: &impl Abort, alloc: Global, room: u32, first: Bus, second: Bus) -> Option<BusPlant>
-    requires first { first.cap ≤ 10 ^ 14 }
-    requires second { second.cap ≤ 10 ^ 14 }
-{
-    let plant = plant_of(alloc, 2, room)?;
-    let buses = vec![in alloc; first, second].ok()?;
-    let mut plant = BusPlant::new(plant, buses).ok()?;
+fn linked(rt: &impl Abort, alloc: Global, room: u32, first: Bus, second: Bus) -> Option<BusPlant> {
+    let mut plant = made(alloc, 2, room, first, second)?.ok()?;
     enter(rt, &mut plant, Call::Link { at: 1, inverter: 0 }).ok()?;
     enter(rt, &mut plant, Call::Link { at: 1, inverter: 1 }).ok()?;
     Some(plant)
@@ -93,7 +99,7 @@ fn granted(reply: Result<BusReply, BookFull>) -> Option<(u32, u16)> {
 
 #[test]
 fn a_full_bus_refuses_behind_a_tick(rt: HostRuntime) -> Result<(), Fail> {
-    let (wide, one) = (bus(100_000_000, 0, 1), bus(4_000_000, 0, 1));
+    let (wide, one) = (bus(1_000_000_000_000, 0, 1), bus(4_000_000, 0, 1));
     let mut plant = linked(&rt, rt.alloc(), 1_000, wide, one).ok_or("plant")?;
     let reply = ask(&rt, &mut plant, 1_000);
     assert_eq!(rt; full(reply), Some((1, 2_800_000)));
@@ -130,7 +136,7 @@ fn each_bus_with_the_inverter_counts_and_the_first_is_told(rt: HostRuntime) -> R
 
 #[test]
 fn a_full_book_refuses_the_tick_or_the_ask(rt: HostRuntime) -> Result<(), Fail> {
-    let (one, wide) = (bus(4_000_000, 0, 1), bus(100_000_000, 0, 1));
+    let (one, wide) = (bus(4_000_000, 0, 1), bus(1_000_000_000_000, 0, 1));
     let mut plant = linked(&rt, rt.alloc(), 2, one, wide).ok_or("plant")?;
     let reply = ask(&rt, &mut plant, 1_000);
     assert!(rt; matches!(reply, Err(BookFull { calls: 2 })));
@@ -145,42 +151,68 @@ fn a_full_book_refuses_the_tick_or_the_ask(rt: HostRuntime) -> Result<(), Fail> 
 }
 
 #[test]
-fn buses_are_refused_by_their_first_fault(rt: HostRuntime) {
-    let range = Some(BusFault {
-        bus: 0,
-        cause: BusCause::Range,
-    });
-    let crossing = Some(BusFault {
-        bus: 1,
-        cause: BusCause::Crossing,
-    });
-    let floors = Some(BusFault {
-        bus: 0,
-        cause: BusCause::FloorsOver(1_200_000),
-    });
-    let left = bus(9_000_000, 0, 1);
+fn a_bus_is_refused_by_its_first_cause(rt: HostRuntime) {
     let right = bus(9_000_000, 1, 2);
-    let alloc = rt.alloc();
-    assert_eq!(rt; fault(alloc, left, right), Some(crossing));
-    assert_eq!(rt; fault(alloc, right, left), Some(crossing));
-    assert_eq!(rt; fault(alloc, bus(1_199_999, 0, 1), right), Some(floors));
-    assert_eq!(rt; fault(alloc, bus(0, 1, 0), right), Some(range));
-    assert_eq!(rt; fault(alloc, bus(0, 0, 3), right), Some(range));
-    assert_eq!(rt; fault(alloc, left, left), Some(None));
-    assert_eq!(rt; fault(alloc, left, bus(600_000, 2, 2)), Some(None));
-    assert_eq!(rt;
-        fault(alloc, bus(100_000_000_000_000, 0, 2), left),
-        Some(None)
+    let above = fault(rt.alloc(), bus(0, 1, 0), right);
+    assert!(rt;
+        matches!(
+            above,
+            Some(BusFault {
+                bus: 0,
+                cause: BusCause::Range
+            })
+        )
+    );
+    let beyond = fault(rt.alloc(), right, bus(0, 0, 3));
+    assert!(rt;
+        matches!(
+            beyond,
+            Some(BusFault {
+                bus: 1,
+                cause: BusCause::Range
+            })
+        )
+    );
+    let low = fault(rt.alloc(), bus(1_199_999, 0, 1), right);
+    assert!(rt;
+        matches!(
+            low,
+            Some(BusFault {
+                bus: 0,
+                cause: BusCause::FloorsOver(1_200_000)
+            })
+        )
     );
 }
 
 #[test]
-fn many_buses_are_fine(rt: HostRuntime) -> Result<(), Fail> {
-    let plant = plant_of(rt.alloc(), 3, 1_000).ok_or("plant")?;
-    let buses = vec![in rt.alloc(); bus(1_800_000, 0, 2); BUSES_MAX]
-        .ok()
-        .ok_or("buses")?;
-    let made = BusPlant::new(plant, buses).ok().ok_or("made")?;
-    assert_eq!(rt; made.buses().len(), BUSES_MAX);
-    Ok(())
+fn buses_touch_or_nest_and_never_cross(rt: HostRuntime) {
+    let left = bus(9_000_000, 0, 1);
+    let right = bus(9_000_000, 1, 2);
+    let crossing = fault(rt.alloc(), left, right);
+    assert!(rt;
+        matches!(
+            crossing,
+            Some(BusFault {
+                bus: 1,
+                cause: BusCause::Crossing
+            })
+        )
+    );
+    let crossing = fault(rt.alloc(), right, left);
+    assert!(rt;
+        matches!(
+            crossing,
+            Some(BusFault {
+                bus: 1,
+                cause: BusCause::Crossing
+            })
+        )
+    );
+    let equal = fault(rt.alloc(), left, left);
+    assert!(rt; equal.is_none());
+    let touching = fault(rt.alloc(), left, bus(600_000, 2, 2));
+    assert!(rt; touching.is_none());
+    let outer = fault(rt.alloc(), bus(100_000_000_000_000, 0, 2), left);
+    assert!(rt; outer.is_none());
 }
