@@ -26,7 +26,7 @@ use Rattle.inverter_worker.specs.Table.{row, other_frame_row, judgement_row}
 use Rattle.inverter_worker.specs.Runs.{RunStep, LeadsTo}
 use Rattle.worker_turn.specs.Doing.{World, IsDone, AreDone, input_of_wait, request_frame}
 use Rattle.worker_turn.specs.Turning.{pending}
-use Rattle.worker_turn.specs.Requests.{IsUp}
+use Rattle.worker_turn.specs.Lines.{IsUp}
 use Rattle.worker_turn.proofs.Reading.{told_of, same_links}
 
 -- a link that is up stays up

@@ -1,6 +1,10 @@
 -- What a dial of a line did.
-use Rattle.std.specs.Prelude.{◌≡◌, ◌⊎◌, ℕ, Bool, true, false, List, [], Option, IfSome, IsSome, option_map}
-use Rattle.world_traits.specs.Links.{Links, IsDown, with_link}
+use Rattle.std.specs.Prelude.{◌≡◌, ◌⊎◌, ℕ, Bool, true, false, List, [], Option, Some, IfSome, option_map}
+use Rattle.world_traits.specs.Links.{Link, Links, IsDown, with_link}
+
+-- a link is up, where links are told
+abbrev pub IsUp : Option Links → Type 0
+IsUp told = (links : Links) → told ≡ Some links → (link : Link) × (links.current ≡ Some link)
 
 -- A link was made: it is up, and nothing came on it yet.
 abbrev pub MakesLink : (host : List ℕ) (port : ℕ) → (old new : Option Links) → (rest : List ℕ) → Type 0
@@ -13,5 +17,4 @@ abbrev pub IsDialed : (shares : Bool) → (host : List ℕ) (port : ℕ) → (ol
     → (unread rest : List ℕ) → Type 0
 IsDialed false host port old new unread rest = MakesLink host port old new rest
 IsDialed true host port old new unread rest =
-    (IfSome old IsDown × MakesLink host port old new rest)
-    ⊎ (IfSome old (λ links. IsSome links.current) × (new ≡ old) × (rest ≡ unread))
+    (IfSome old IsDown × MakesLink host port old new rest) ⊎ (IsUp old × (new ≡ old) × (rest ≡ unread))

@@ -49,10 +49,6 @@ pub record Awaits (request : Asked) (sofar : List RunStep) : Type 0 where
   pub is_whole : IsStep input.SentAll output.Receive whole
   pub are_passed : AllByRecursion (IsPassedOver request) passed
 
--- a link is up, where links are told
-abbrev pub IsUp : Option Links → Type 0
-IsUp told = (links : Links) → told ≡ Some links → (link : Link) × (links.current ≡ Some link)
-
 -- what was sent on the link that is up ends with these bytes
 abbrev pub IsSentLast : List ℕ → Option Links → Type 0
 IsSentLast bytes told = (links : Links) (link : Link) → told ≡ Some links → links.current ≡ Some link

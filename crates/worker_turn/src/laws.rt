@@ -21,7 +21,8 @@ ghost use Rattle.worker_turn.specs.Agreeing.{AreEntriesOf, calls_made, failures,
 ghost use Rattle.worker_turn.specs.Agreeing.{endpoints, dialed, AreSent, IsSent};
 ghost use Rattle.worker_turn.specs.Worker.{IsBegin};
 ghost use Rattle.worker_turn.specs.Turning.{pending};
-ghost use Rattle.worker_turn.specs.Requests.{IsRequested, IsUp};
+ghost use Rattle.worker_turn.specs.Lines.{IsUp};
+ghost use Rattle.worker_turn.specs.Requests.{IsRequested};
 ghost use Rattle.worker_turn.specs.Sights.{IsSight, IsSeen};
 ghost use Rattle.worker_turn.specs.Answered.{IsAnswered};
 

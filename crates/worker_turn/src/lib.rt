@@ -1,7 +1,8 @@
 //! One turn of a worker: it does what the table of `inverter_worker` puts out, one output after another, with a desk, a
 //! dialer and a clock, and hands the table what came of each.
 //!
-//! What a turn is stands in `specs/Worker.antt`, and what it is to do an output in `specs/Doing.antt`.
+//! `take_turn` makes a turn over any `Line`, and a `Worker` makes its turns over a line of its own. What a turn is stands
+//! in `specs/Worker.antt`, what it is to do an output in `specs/Doing.antt`, and what a dial does in `specs/Lines.antt`.
 #![tactic(auto)]
 
 mod begin;

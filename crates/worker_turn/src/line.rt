@@ -31,7 +31,8 @@ pub trait Line {
     ghost kept: { Self → Self.Kept };
 
     /// Makes a link to a host's TCP port, which is up from then on, and on which nothing came yet. `wait` says how long
-    /// this dial and each receive on the link waits at most, in ms. Where the dial fails all is as before.
+    /// this dial and each receive on the link waits at most, in ms. A dial that fails leaves the links, and what came, as
+    /// before.
     ///
     /// A line that is shared makes no link where one is up: that one stands, with what came on it.
     fn dial(&mut self, host: &str, port: u16, wait: u32) -> Result<(), DialFailed>
@@ -42,7 +43,7 @@ pub trait Line {
         ensures cause { HasCause (faults self.old) (faults self.new) result }
         ensures kept { kept self.new ≡ kept self.old };
 
-    /// Sends all of the bytes on the link that is up. Where that fails, some first bytes were sent, or none.
+    /// Sends the bytes of a whole frame on the link that is up. Where that fails, some first bytes were sent, or none.
     fn send_whole(&mut self, bytes: &[u8]) -> Result<(), SendFailed>
         ensures whole { OnOk result (links self.new ≡ option_map (with_bytes bytes.now) (links self.old)) }
         ensures short { OnErr result (IsCutShort bytes.now (links self.old) (links self.new)) }
@@ -51,7 +52,7 @@ pub trait Line {
         ensures kept { kept self.new ≡ kept self.old };
 
     /// Waits for the next frame: takes one piece after another from the link that is up, as long as what came is less
-    /// than a frame.
+    /// than a frame. An error says what came in its place. After a receive that failed the link is over.
     fn next_frame(&mut self) -> Result<Frame, NoFrame>
         ensures wait { IsWait result (unread self.old) (unread self.new) (links self.old) (links self.new) }
         ensures counts { Counts result (faults self.old) (faults self.new) }

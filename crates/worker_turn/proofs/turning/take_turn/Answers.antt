@@ -1,4 +1,4 @@
-use Rattle.std.proofs.Common.{◌≡◌, ℕ, ◌≤◌, ◌+◌, suc, List, ap, subst}
+use Rattle.std.proofs.Common.{List, subst}
 use Rattle.inverter_worker.specs.declared.output.Sent.{Sent}
 use Rattle.worker_turn.specs.Doing.{World, world_of}
 use Rattle.worker_turn.specs.Worker.{WorkerRecord, IsTurnOn}

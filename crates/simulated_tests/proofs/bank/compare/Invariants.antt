@@ -1,5 +1,5 @@
 use Rattle.std.proofs.Common.{◌≡◌}
-use Rattle.inverter_sim.proofs.tests.compare.Given as goal
+use Rattle.simulated_tests.proofs.bank.compare.Given as goal
 
 -- the moment of the last call
 abbrev pub invariant-loop-now : goal.invariant-loop-now
