@@ -14,6 +14,3 @@ mod sums;
 
 pub use bus::{BUSES_MAX, Bus, BusCause, BusFault};
 pub use plant::{BusPlant, BusReply};
-
-#[cfg(test)]
-mod tests;

@@ -2,6 +2,8 @@
 #![tactic(auto)]
 
 #[cfg(test)]
+mod buses;
+#[cfg(test)]
 mod live_writes;
 #[cfg(test)]
 mod lives;

@@ -1,7 +1,7 @@
 ghost use Rattle.std.specs.Prelude.{◌≡◌, ◌≤◌, ◌^◌, [], None, length, IfSome};
 ghost use Rattle.std.specs.List.{AllByRecursion};
 
-use super::*;
+use busbars::*;
 use limiter_num::{Rating, Rules};
 use plant_book::{CAP_MAX, Call, MOMENT_MAX, Policy, Reply, Site, Unit};
 use plant_ledger::{BookFull, Plant};
