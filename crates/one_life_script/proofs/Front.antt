@@ -161,8 +161,6 @@ ask_read rest a b c more unread are is row =
     row_found number_most size_most (codes "ask" ++ rest) (Says (lines.One (calls.Ask a b c))) most_big (omega arith)
     (record { words = codes "ask" ∷ more; unread = unread; are = (refl, are); spelling = ap (λ (x : List ℕ). codes "ask" ++ x) row; is_unread = is })
 
-
-
 -- the same reading gives the numbers alone
 record Read (rest : List ℕ) (made : Fields) (behind : List ℕ) : Type 0 where
   a : ℕ × List ℕ
