@@ -22,6 +22,7 @@ const NO_BUS: Bus = Bus {
 };
 
 /// The buses in front of a script, and the script.
+#[derive(Drop)]
 pub struct Front<'a> {
     /// The buses that were read stand first.
     pub places: [Bus; BUSES_MAX],
@@ -34,6 +35,7 @@ pub struct Front<'a> {
 }
 
 /// What the row at the front is.
+#[derive(Drop)]
 pub enum FrontRow {
     Comment,
     Bus(Bus),
@@ -44,6 +46,7 @@ pub enum FrontRow {
 }
 
 /// The first bad line in front of a script.
+#[derive(Drop)]
 pub struct BadRow {
     /// Its number, from 1.
     pub line: u32,
