@@ -10,6 +10,7 @@ use Rattle.plant_book.specs.Book.{BookRecord}
 use Rattle.plant_book.specs.Part.{PartRecord, first_book}
 use Rattle.plant_book.specs.Answered.{IsInRange, IsBook}
 use Rattle.plant_ledger.specs.declared.plant.BookFull.{BookFull}
+use Rattle.script_text.specs.declared.line.Line.{Line}
 use Rattle.script_text.specs.declared.line.Line.TheVariants as lines
 use Rattle.script_text.specs.declared.lines.Lines.{Lines}
 use Rattle.script_text.specs.Script.{ScriptRecord, IsScript}
@@ -34,6 +35,10 @@ use Rattle.nested_replay.specs.Played.{Deed, Refused, Plays, entries_of, book_of
 abbrev pub CallFits : SiteRecord → Call → Type 0
 CallFits site call =
     (moment call ≤ MOMENT_MAX) × IfSome (named call) (λ inverter. inverter < inverters site) × IsInRange call
+
+-- the line is a call
+abbrev pub IsCall : Line → Type 0
+IsCall line = (call : Call) × (line ≡ lines.One call)
 
 -- the bytes that the lines are read from
 abbrev pub bytes_of : Lines → List ℕ

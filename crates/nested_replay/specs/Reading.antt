@@ -19,7 +19,8 @@ IsBusOf cap lo hi (Some bus) = (bus.cap ≡ cap) × (bus.lo ≡ lo) × (bus.hi �
 
 -- the row is bad behind every list of so many buses
 abbrev pub IsBadBehind : LineKind → ℕ → List ℕ → Type 0
-IsBadBehind kind count row = (before : List bus.Bus) → length before ≡ count → BeginsWith (codes "bus") row → IsBadBus kind before row
+IsBadBehind kind count row =
+    (before : List bus.Bus) → length before ≡ count → BeginsWith (codes "bus") row → IsBadBus kind before row
 
 -- what came of reading a bus's row behind so many buses
 abbrev pub BusRead : ℕ → List ℕ → Result bus.Bus LineKind → Type 0
@@ -29,7 +30,8 @@ BusRead count row (Err kind) = IsBadBehind kind count row
 -- what a row in front of a script is, behind so many buses
 abbrev pub IsFrontRow : ℕ → List ℕ → FrontRow → Type 0
 IsFrontRow count row rows.Comment = IsComment row
-IsFrontRow count row (rows.Bus bus) = (count < 32) × SpellsWords row (bus_words bus) × IsBusInRange bus
+IsFrontRow count row (rows.Bus bus) =
+    BeginsWith (codes "bus") row × (count < 32) × SpellsWords row (bus_words bus) × IsBusInRange bus
 IsFrontRow count row (rows.Bad kind) = BeginsWith (codes "bus") row × IsBadBehind kind count row
 IsFrontRow count row rows.Script = (IsComment row → ⊥) × (BeginsWith (codes "bus") row → ⊥)
 

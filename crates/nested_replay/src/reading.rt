@@ -1,8 +1,21 @@
+ghost use Rattle.std.specs.Prelude.{◌≡◌};
+ghost use Rattle.script_text.specs.declared.line.Line.TheVariants as lines;
 ghost use Rattle.script_text.specs.Reader.{AreLast};
-ghost use Rattle.nested_replay.specs.Playing.{IsReading, NextCall};
+ghost use Rattle.nested_replay.specs.Playing.{IsCall, IsReading, NextCall};
 
 use plant_book::Call;
 use script_text::{Line, Lines};
+
+/// The call of a line that is one.
+fn call_of(line: Line) -> Call
+    requires { IsCall line }
+    ensures { line ≡ lines.One result }
+{
+    match line {
+        Line::One(call) => call,
+        Line::Restart(_) | Line::Roll => unreachable!(),
+    }
+}
 
 /// Reads the next call of a script of one life, or finds its end.
 pub fn next_call(lines: &mut Lines<'_>) -> Option<Call>
@@ -10,9 +23,9 @@ pub fn next_call(lines: &mut Lines<'_>) -> Option<Call>
     ensures { NextCall lines.old lines.new result }
 {
     match lines.next_line() {
-        Ok(Some(Line::One(call))) => Some(call),
         Ok(None) => None,
-        _ => unreachable!(),
+        Ok(Some(line)) => Some(call_of(line)),
+        Err(_) => unreachable!(),
     }
 }
 
