@@ -13,9 +13,9 @@ pub on_ok : {T E A B : Type 0} (r : Result T E) → (A → B) → OnOk r A → O
 on_ok (Ok x) f a = f a
 on_ok (Err x) f a = tt
 
-pub busfull_line : (o at inverter raw bus left x1 x2 x3 x4 : List ℕ) → x1 ≡ o ++ codes "ask" → x2 ≡ x1 ++ 32 ∷ (at ++ 32 ∷ (inverter ++ 32 ∷ raw)) → x3 ≡ x2 ++ codes " = busfull"
-    → x4 ≡ x3 ++ 32 ∷ (bus ++ 32 ∷ (left ++ 10 ∷ [])) → x4 ≡ o ++ (spaced (codes "ask" ∷ at ∷ inverter ∷ raw ∷ codes "=" ∷ codes "busfull" ∷ bus ∷ left ∷ []) ++ 10 ∷ [])
-busfull_line o at inverter raw bus left x1 x2 x3 x4 p q r s = rw (s, r, q, p) (simp append_assoc)
+pub busfull_line : (o at inverter raw bus left inverter' raw' bus' x1 x2 x3 x4 : List ℕ) → inverter' ≡ inverter → raw' ≡ raw → bus' ≡ bus → x1 ≡ o ++ codes "ask" → x2 ≡ x1 ++ 32 ∷ (at ++ 32 ∷ (inverter' ++ 32 ∷ raw')) → x3 ≡ x2 ++ codes " = busfull"
+    → x4 ≡ x3 ++ 32 ∷ (bus' ++ 32 ∷ (left ++ 10 ∷ [])) → x4 ≡ o ++ (spaced (codes "ask" ∷ at ∷ inverter ∷ raw ∷ codes "=" ∷ codes "busfull" ∷ bus ∷ left ∷ []) ++ 10 ∷ [])
+busfull_line o at inverter raw bus left inverter' raw' bus' x1 x2 x3 x4 a b c p q r s = rw (s, r, q, p, a, b, c) (simp append_assoc)
 
 -- the entries from a place on begin with the one there
 next_entry : (entries : List Entry) (place : ℕ) (entry : Entry) → slice_get entries place ≡ Some entry → drop place entries ≡ entry ∷ drop (suc place) entries

@@ -6,6 +6,7 @@ abbrev pub invariant-loop-bus : goal.invariant-loop-bus
 invariant-loop-bus l = record {
   read : FrontRead l.fn.bytes (take l.count l.places) l.script l.rows;
   few : l.count ≤ 32;
+  places : length l.places ≡ 32;
   short : l.rows + length l.script ≤ length l.fn.bytes;
 }
 
