@@ -106,15 +106,15 @@ IsNoAsk call = Unit {0}
 
 as_plays : (buses : List bus.Bus) (b : BookRecord) (call : Call) (more : List Call) (deeds : List Deed) (full : Option ℕ) → IsNoAsk call
     → IsStopped b deeds full ⊎ (HasPlaceFor b × (later : List Deed) × (deeds ≡ Entered (entry_for b call) ∷ later) × Plays buses (with_call b call) more later full) → Plays buses b (call ∷ more) deeds full
-as_plays buses b (calls.Ask at inverter raw) more deeds full no p = absurd no
-as_plays buses b (calls.Link at inverter) more deeds full no p = p
-as_plays buses b (calls.Read at inverter) more deeds full no p = p
-as_plays buses b (calls.Saw at inverter number raw) more deeds full no p = p
-as_plays buses b (calls.Back at inverter link number) more deeds full no p = p
-as_plays buses b (calls.Want at inverter mw) more deeds full no p = p
-as_plays buses b (calls.Tick at) more deeds full no p = p
-as_plays buses b (calls.Stop at) more deeds full no p = p
-as_plays buses b (calls.Cap at mw) more deeds full no p = p
+as_plays buses b (calls.Ask at inverter raw) more deeds full apart p = absurd apart
+as_plays buses b (calls.Link at inverter) more deeds full apart p = p
+as_plays buses b (calls.Read at inverter) more deeds full apart p = p
+as_plays buses b (calls.Saw at inverter number raw) more deeds full apart p = p
+as_plays buses b (calls.Back at inverter link number) more deeds full apart p = p
+as_plays buses b (calls.Want at inverter mw) more deeds full apart p = p
+as_plays buses b (calls.Tick at) more deeds full apart p = p
+as_plays buses b (calls.Stop at) more deeds full apart p = p
+as_plays buses b (calls.Cap at mw) more deeds full apart p = p
 
 none_refused : (call : Call) (outcome : Outcome) → refused_text call (told.Plain outcome) ≡ []
 none_refused (calls.Ask at inverter raw) outcome = refl
@@ -152,9 +152,9 @@ module _ (buses : List bus.Bus) (site : SiteRecord) (start : ℕ) (entries : Lis
   }
 
   plain_done : (call : Call) (answer : Result BusReply BookFull) (new : PartRecord) → IsNoAsk call → IsPlain call answer (part site start entries) new → EachBook new (ReservesUnderCaps buses) → Does buses site start entries call answer new
-  plain_done call (Ok (told.BusFull place left)) new no plain under = absurd plain
-  plain_done call (Err full) new no plain under = nothing_done call full new plain (λ more. as_plays buses (book site start entries) call more [] (Some full.calls) no (inl (stopped call full new plain)))
-  plain_done call (Ok (told.Plain outcome)) new no plain under =
+  plain_done call (Ok (told.BusFull place left)) new apart plain under = absurd plain
+  plain_done call (Err full) new apart plain under = nothing_done call full new plain (λ more. as_plays buses (book site start entries) call more [] (Some full.calls) apart (inl (stopped call full new plain)))
+  plain_done call (Ok (told.Plain outcome)) new apart plain under =
       let e = enters buses site start entries call outcome new safe.book_is plain under in
       let one : Entry = entry_for (book site start entries) call in
       record {
@@ -162,7 +162,7 @@ module _ (buses : List bus.Bus) (site : SiteRecord) (start : ℕ) (entries : Lis
         new_is = e.new_is;
         text = sym (ap (λ (x : List ℕ). (entry_text one ++ []) ++ x) (none_refused call outcome) ∙ append-nil (entry_text one ++ []));
         each = λ first later is. one_before (λ (ds : List Deed). IsSafeBook buses (book site start (entries ++ entries_of ds))) (Entered one) first later is at_start e.safe;
-        plays = λ more later full p. as_plays buses (book site start entries) call more (Entered one ∷ later) full no (inr (e.room, later, refl, p));
+        plays = λ more later full p. as_plays buses (book site start entries) call more (Entered one ∷ later) full apart (inr (e.room, later, refl, p));
       }
 
   module _ (at inverter raw : ℕ) where

@@ -2,3 +2,4 @@ pub mod Texts
 pub mod Rows
 pub mod Calls
 pub mod Deeds
+pub mod Playings
