@@ -277,6 +277,10 @@ module _ (script : ScriptRecord) (old new : BusPlantRecord) (before after : List
       ∙ append_assoc front (flat_map deed_text s.deeds) (flat_map deed_text does.deeds)
       ∙ ap (λ (x : List ℕ). front ++ x) (sym (flat_map-append deed_text s.deeds does.deeds))
 
+pub same_site : (script : ScriptRecord) (old new : BusPlantRecord) (before after : List ℕ) (call : Call) → Stands script old before → Steps call old new before after None → new.book.site ≡ old.book.site
+same_site script old new before after call s st =
+    ap (λ (p : PartRecord). p.site) (does script old new before after call None s st).new_is ∙ sym (ap (λ (p : PartRecord). p.site) s.book_is)
+
 goes_ok : (buses : List bus.Bus) (site : SiteRecord) (start : ℕ) (entries : List Entry) (call : Call) (deeds : List Deed) (answer : Result BusReply BookFull) → None ≡ full_in answer → Goes buses site start entries call deeds answer
     → (more : List Call) (later : List Deed) (full : Option ℕ) → Plays buses (book site start (entries ++ entries_of deeds)) more later full → Plays buses (book site start entries) (call ∷ more) (deeds ++ later) full
 goes_ok buses site start entries call deeds (Ok reply) e goes = goes
@@ -322,13 +326,14 @@ calls_back (line ∷ a) more (call ∷ its, e) = calls_back a more (its, rest_sa
     rest_same x y xs ys e = cc
 
 pub full_played : (bytes : List ℕ) (script : ScriptRecord) (old new : BusPlantRecord) (before after : List ℕ) (call : Call) (n : ℕ) (more : List Line) → Stands script old before → Steps call old new before after (Some n)
-    → IsScript bytes (with_lines (with_lines script (lines.One call ∷ [])) more) → AreCalls ((script.lines ++ lines.One call ∷ []) ++ more) → IsPlayed bytes old.buses after (Some n)
+    → IsScript bytes (with_lines (with_lines script (lines.One call ∷ [])) more) → AreCalls ((script.lines ++ lines.One call ∷ []) ++ more) → IsPlayed bytes old.book.site old.buses after (Some n)
 full_played bytes script old new before after call n more s st is are =
     let d = does script old new before after call (Some n) s st in
     let rest = calls_back (script.lines ++ lines.One call ∷ []) more are in
     let all : List Call = s.calls ++ call ∷ rest.0 in
     record {
       script = with_lines (with_lines script (lines.One call ∷ [])) more;
+      site_is = sym (ap (λ (p : PartRecord). p.site) s.book_is);
       is_script = is;
       calls = all;
       lines_are = append_assoc script.lines (lines.One call ∷ []) more ∙ ap (λ (x : List Line). script.lines ++ lines.One call ∷ x) rest.1
@@ -339,9 +344,10 @@ full_played bytes script old new before after call n more s st is are =
       text_is = new_text script old new before after call (Some n) s st;
     }
 
-pub all_played : (bytes : List ℕ) (script : ScriptRecord) (plant : BusPlantRecord) (text : List ℕ) → Stands script plant text → IsScript bytes script → IsPlayed bytes plant.buses text None
+pub all_played : (bytes : List ℕ) (script : ScriptRecord) (plant : BusPlantRecord) (text : List ℕ) → Stands script plant text → IsScript bytes script → IsPlayed bytes plant.book.site plant.buses text None
 all_played bytes script plant text s is = record {
   script = script;
+  site_is = sym (ap (λ (p : PartRecord). p.site) s.book_is);
   is_script = is;
   calls = s.calls;
   lines_are = s.lines_are;

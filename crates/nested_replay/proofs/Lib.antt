@@ -3,3 +3,5 @@ pub mod Rows
 pub mod Calls
 pub mod Deeds
 pub mod Playings
+pub mod Once
+pub mod Replays

@@ -44,18 +44,19 @@ module _ (old new : Lines) (plant : BusPlantRecord) (text : List ℕ) (call : Ca
   }
 
 pub plays_on : (old new : Lines) (plant next : BusPlantRecord) (text after : List ℕ) (call : Call) → IsPlaying old plant text → CallRead old call new → Steps call plant next text after None → IsPlaying new next after
+unfolding reading_on
 plays_on old new plant next text after call p one st =
     let r = reading_on old new plant text call p one in
     record { script = r.script; read = r.read; whole = r.whole; one = r.one; stands = stands_on p.script plant next text after call p.stands st }
 
 pub plays_full : (old new : Lines) (plant next : BusPlantRecord) (text after : List ℕ) (call : Call) (n : ℕ) → IsPlaying old plant text → CallRead old call new → Steps call plant next text after (Some n) → AreLast new
-    → IsPlayed (bytes_of old) plant.buses after (Some n)
+    → IsPlayed (bytes_of old) plant.book.site plant.buses after (Some n)
 plays_full old new plant next text after call n p one st last =
     let script : ScriptRecord = with_lines p.script (lines.One call ∷ []) in
     let rest = last (bytes_of old) script (read_on old new plant text call p one) in
     full_played (bytes_of old) p.script plant next text after call n rest.0 p.stands st rest.1 (rest_are_calls (bytes_of old) script p.whole rest.0 p.one rest.1)
 
-pub plays_end : (old new : Lines) (plant : BusPlantRecord) (text : List ℕ) → IsPlaying old plant text → NextCall old new None → IsPlayed (bytes_of old) plant.buses text None
+pub plays_end : (old new : Lines) (plant : BusPlantRecord) (text : List ℕ) → IsPlaying old plant text → NextCall old new None → IsPlayed (bytes_of old) plant.book.site plant.buses text None
 plays_end old new plant text p ends = all_played (bytes_of old) p.script plant text p.stands (ends p.script p.read)
 
 -- the start
@@ -109,6 +110,7 @@ reads_head bytes begun size one has = record {
 pub opens : (front : fronts.Front) (size : sizes.SiteSize) (begun : Begun) (part : PartRecord) (buses : List bus.Bus) (made : BusPlantRecord) → HasOneLife front.script.now size → HasRead front.script.now (script_begun begun) begun.lines
     → part ≡ part_of begun.site begun.start [] → IsKept part → buses ≡ front_buses front → made ≡ record { book = part; buses = buses } → EachFits part.site [] buses → EachBook part (ReservesUnderCaps buses)
     → OpensFront front (record { plant = made; start = begun.start; lines = begun.lines })
+unfolding reads_head
 opens front size begun part buses made one has is kept are made_is fit under =
     let reading = reads_head front.script.now begun size one has in
     let book = opened_book part begun.site begun.start is kept in

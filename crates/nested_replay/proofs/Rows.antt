@@ -117,7 +117,7 @@ fault_in_front bytes line kind f =
       bad = inl (subst (λ (x : List bus.Bus). IsBadBusFirst kind x (lines f.rest)) (sym r.buses_are) f.bad, omega (arith, f.line_is, r.count_is));
     }
 
-taken_few : (count : ℕ) (xs : List bus.Bus) → count ≤ 32 → length (take count xs) ≤ 32
+pub taken_few : (count : ℕ) (xs : List bus.Bus) → count ≤ 32 → length (take count xs) ≤ 32
 taken_few count xs few = omega (arith, few, take_short count xs)
   where
     take_short : (n : ℕ) (ys : List bus.Bus) → length (take n ys) ≤ n

@@ -121,8 +121,10 @@ pub record IsPlaying (lines : Lines) (plant : BusPlantRecord) (text : List ℕ) 
   pub stands : Stands script plant text
 
 -- all calls of the script were played, or those up to one that found the book full
-pub record IsPlayed (bytes : List ℕ) (buses : List bus.Bus) (text : List ℕ) (full : Option ℕ) : Type 0 where
+pub record IsPlayed
+    (bytes : List ℕ) (site : SiteRecord) (buses : List bus.Bus) (text : List ℕ) (full : Option ℕ) : Type 0 where
   pub script : ScriptRecord
+  pub site_is : script.site ≡ site
   pub is_script : IsScript bytes script
   pub calls : List Call
   pub lines_are : script.lines ≡ map (λ call. lines.One call) calls

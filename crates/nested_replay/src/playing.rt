@@ -33,7 +33,8 @@ pub fn play(
     text: &mut Vec<u8>,
 ) -> Result<Option<u32>, NoMemory>
     requires { IsPlaying lines.old plant.old text.old.items }
-    ensures { IfOk result (λ full. IsPlayed (bytes_of lines.old) plant.old.buses text.new.items full) }
+    ensures { IfOk result (λ full.
+        IsPlayed (bytes_of lines.old) plant.old.book.site plant.old.buses text.new.items full) }
 {
     while let Some(call) = next_call(lines) {
         if let Some(calls) = step(plant, text, call)? {

@@ -103,8 +103,8 @@ fn head(alloc: Global, opened: &Opened<'_>) -> Result<Vec<u8>, NoMemory>
 /// Plays the calls of a script from its first one on.
 fn replay(alloc: Global, opened: &mut Opened<'_>) -> Result<Replayed, NoMemory>
     requires { IsOpened opened.old }
-    ensures { IfOk result (λ replayed.
-        IsPlayed (bytes_of opened.old.lines) opened.old.plant.buses replayed.text.items replayed.full) }
+    ensures { IfOk result (λ replayed. IsPlayed (bytes_of opened.old.lines)
+        opened.old.plant.book.site opened.old.plant.buses replayed.text.items replayed.full) }
 {
     let mut text = head(alloc, opened)?;
     let full = play(&mut opened.lines, &mut opened.plant, &mut text)?;

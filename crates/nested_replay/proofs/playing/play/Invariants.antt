@@ -7,6 +7,7 @@ abbrev pub invariant-loop-call : goal.invariant-loop-call
 invariant-loop-call l = record {
   playing : IsPlaying l.lines l.plant l.text.items;
   bytes : bytes_of l.lines ≡ bytes_of l.fn.lines;
+  site : l.plant.book.site ≡ l.fn.plant.book.site;
   buses : l.plant.buses ≡ l.fn.plant.buses;
 }
 

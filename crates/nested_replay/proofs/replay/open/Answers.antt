@@ -3,7 +3,7 @@ use Rattle.nested_replay.proofs.Playings.{reads_head, opens, not_opened}
 use Rattle.nested_replay.proofs.replay.open.Goals as goal
 
 pub open-requires : goal.open-requires
-open-requires c = starts c.args.front.now.script.now _ c.in-Ok.field-0.lines c.in-Ok.ensures
+open-requires c = record { start = starts c.args.front.now.script.now _ c.in-Ok.field-0.lines c.in-Ok.ensures }
 
 pub read_rest-requires : goal.read_rest-requires
 read_rest-requires c = reads_head c.args.front.now.script.now c.in-Ok.field-0 c.args.size.now c.requires.one c.in-Ok.ensures
