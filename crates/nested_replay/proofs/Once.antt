@@ -5,7 +5,7 @@ use Rattle.std.specs.List.{flat_map}
 use Rattle.std.specs.Option.{option_to_list}
 use Rattle.std.specs.Str.Lines.{lines}
 use Rattle.std.proofs.lemmas.Bool.{cases_order}
-use Rattle.std.proofs.lemmas.List.{append-nil}
+use Rattle.std.proofs.lemmas.List.{append-nil, append_cancel_left}
 use Rattle.std.proofs.lemmas.List.Concat.{flat_map-append}
 use Rattle.plant_book.specs.declared.call.Call.TheVariants as calls
 use Rattle.script_text.specs.declared.line.Line.{Line}
@@ -34,28 +34,36 @@ first_word text kinds (word ∷ words) unread row are is =
 begins_of : (row : List ℕ) (b : bus.Bus) → SpellsWords row (bus_words b) → BeginsWith (codes "bus") row
 begins_of row b s = first_word (codes "bus") (Number b.cap ∷ Number b.lo ∷ Number b.hi ∷ []) s.spelled s.unread row s.are s.spelling
 
+abbrev first_byte : List ℕ → ℕ
+first_byte [] = 0
+first_byte (byte ∷ more) = byte
+
+abbrev second_byte : List ℕ → ℕ
+second_byte (byte ∷ next ∷ more) = next
+second_byte _ = 0
+
 no_comment : (row : List ℕ) → BeginsWith (codes "bus") row → IsComment row → ⊥
 no_comment [] begins is = is
-no_comment (byte ∷ row) begins is = let e = begins.1 in absurd cc
+no_comment (byte ∷ row) begins is = let e : byte ≡ 98 = ap first_byte begins.1 in omega (arith, e, is)
 
 apart : (text more other row : List ℕ) → row ≡ text ++ more → row ≡ codes "bus" ++ other → text ++ more ≡ codes "bus" ++ other
 apart text more other row p q = sym p ∙ q
 
 no_statement : (row : List ℕ) (statement : Statement) → BeginsWith (codes "bus") row → IsSpelled row statement → ⊥
-no_statement row (Site cap send delay timer per_mille slack policy room) b is = let w = first_word (codes "site") (Number cap ∷ Number send ∷ Number delay ∷ Number timer ∷ Number per_mille ∷ Number slack ∷ Text (policy_word policy) ∷ Number room ∷ []) is.words is.unread row is.are is.spelling in let e = apart (codes "site") w.0 b.0 row w.1 b.1 in absurd cc
-no_statement row (Inverter wmax wsf psf floor) b is = let w = first_word (codes "inverter") (Number wmax ∷ Signed wsf ∷ Signed psf ∷ Number floor ∷ []) is.words is.unread row is.are is.spelling in let e = apart (codes "inverter") w.0 b.0 row w.1 b.1 in absurd cc
-no_statement row (Begin at) b is = let w = first_word (codes "begin") (Number at ∷ []) is.words is.unread row is.are is.spelling in let e = apart (codes "begin") w.0 b.0 row w.1 b.1 in absurd cc
-no_statement row (Says (kinds_of_line.Restart at)) b is = let w = first_word (codes "restart") (Number at ∷ []) is.words is.unread row is.are is.spelling in let e = apart (codes "restart") w.0 b.0 row w.1 b.1 in absurd cc
-no_statement row (Says kinds_of_line.Roll) b is = let w = first_word (codes "roll") [] is.words is.unread row is.are is.spelling in let e = apart (codes "roll") w.0 b.0 row w.1 b.1 in absurd cc
-no_statement row (Says (kinds_of_line.One (calls.Link at i))) b is = let w = first_word (codes "link") (Number at ∷ Number i ∷ []) is.words is.unread row is.are is.spelling in let e = apart (codes "link") w.0 b.0 row w.1 b.1 in absurd cc
-no_statement row (Says (kinds_of_line.One (calls.Ask at i raw))) b is = let w = first_word (codes "ask") (Number at ∷ Number i ∷ Number raw ∷ []) is.words is.unread row is.are is.spelling in let e = apart (codes "ask") w.0 b.0 row w.1 b.1 in absurd cc
-no_statement row (Says (kinds_of_line.One (calls.Read at i))) b is = let w = first_word (codes "read") (Number at ∷ Number i ∷ []) is.words is.unread row is.are is.spelling in let e = apart (codes "read") w.0 b.0 row w.1 b.1 in absurd cc
-no_statement row (Says (kinds_of_line.One (calls.Saw at i number raw))) b is = let w = first_word (codes "saw") (Number at ∷ Number i ∷ Number number ∷ Number raw ∷ []) is.words is.unread row is.are is.spelling in let e = apart (codes "saw") w.0 b.0 row w.1 b.1 in absurd cc
-no_statement row (Says (kinds_of_line.One (calls.Back at i link number))) b is = let w = first_word (codes "back") (Number at ∷ Number i ∷ Number link ∷ Number number ∷ []) is.words is.unread row is.are is.spelling in let e = apart (codes "back") w.0 b.0 row w.1 b.1 in absurd cc
-no_statement row (Says (kinds_of_line.One (calls.Want at i mw))) b is = let w = first_word (codes "want") (Number at ∷ Number i ∷ Number mw ∷ []) is.words is.unread row is.are is.spelling in let e = apart (codes "want") w.0 b.0 row w.1 b.1 in absurd cc
-no_statement row (Says (kinds_of_line.One (calls.Tick at))) b is = let w = first_word (codes "tick") (Number at ∷ []) is.words is.unread row is.are is.spelling in let e = apart (codes "tick") w.0 b.0 row w.1 b.1 in absurd cc
-no_statement row (Says (kinds_of_line.One (calls.Stop at))) b is = let w = first_word (codes "stop") (Number at ∷ []) is.words is.unread row is.are is.spelling in let e = apart (codes "stop") w.0 b.0 row w.1 b.1 in absurd cc
-no_statement row (Says (kinds_of_line.One (calls.Cap at mw))) b is = let w = first_word (codes "cap") (Number at ∷ Number mw ∷ []) is.words is.unread row is.are is.spelling in let e = apart (codes "cap") w.0 b.0 row w.1 b.1 in absurd cc
+no_statement row (Site cap send delay timer per_mille slack policy room) b is = let w = first_word (codes "site") (Number cap ∷ Number send ∷ Number delay ∷ Number timer ∷ Number per_mille ∷ Number slack ∷ Text (policy_word policy) ∷ Number room ∷ []) is.words is.unread row is.are is.spelling in let e : 115 ≡ 98 = ap first_byte (apart (codes "site") w.0 b.0 row w.1 b.1) in omega (arith, e)
+no_statement row (Inverter wmax wsf psf floor) b is = let w = first_word (codes "inverter") (Number wmax ∷ Signed wsf ∷ Signed psf ∷ Number floor ∷ []) is.words is.unread row is.are is.spelling in let e : 105 ≡ 98 = ap first_byte (apart (codes "inverter") w.0 b.0 row w.1 b.1) in omega (arith, e)
+no_statement row (Begin at) b is = let w = first_word (codes "begin") (Number at ∷ []) is.words is.unread row is.are is.spelling in let e : 101 ≡ 117 = ap second_byte (apart (codes "begin") w.0 b.0 row w.1 b.1) in omega (arith, e)
+no_statement row (Says (kinds_of_line.Restart at)) b is = let w = first_word (codes "restart") (Number at ∷ []) is.words is.unread row is.are is.spelling in let e : 114 ≡ 98 = ap first_byte (apart (codes "restart") w.0 b.0 row w.1 b.1) in omega (arith, e)
+no_statement row (Says kinds_of_line.Roll) b is = let w = first_word (codes "roll") [] is.words is.unread row is.are is.spelling in let e : 114 ≡ 98 = ap first_byte (apart (codes "roll") w.0 b.0 row w.1 b.1) in omega (arith, e)
+no_statement row (Says (kinds_of_line.One (calls.Link at i))) b is = let w = first_word (codes "link") (Number at ∷ Number i ∷ []) is.words is.unread row is.are is.spelling in let e : 108 ≡ 98 = ap first_byte (apart (codes "link") w.0 b.0 row w.1 b.1) in omega (arith, e)
+no_statement row (Says (kinds_of_line.One (calls.Ask at i raw))) b is = let w = first_word (codes "ask") (Number at ∷ Number i ∷ Number raw ∷ []) is.words is.unread row is.are is.spelling in let e : 97 ≡ 98 = ap first_byte (apart (codes "ask") w.0 b.0 row w.1 b.1) in omega (arith, e)
+no_statement row (Says (kinds_of_line.One (calls.Read at i))) b is = let w = first_word (codes "read") (Number at ∷ Number i ∷ []) is.words is.unread row is.are is.spelling in let e : 114 ≡ 98 = ap first_byte (apart (codes "read") w.0 b.0 row w.1 b.1) in omega (arith, e)
+no_statement row (Says (kinds_of_line.One (calls.Saw at i number raw))) b is = let w = first_word (codes "saw") (Number at ∷ Number i ∷ Number number ∷ Number raw ∷ []) is.words is.unread row is.are is.spelling in let e : 115 ≡ 98 = ap first_byte (apart (codes "saw") w.0 b.0 row w.1 b.1) in omega (arith, e)
+no_statement row (Says (kinds_of_line.One (calls.Back at i link number))) b is = let w = first_word (codes "back") (Number at ∷ Number i ∷ Number link ∷ Number number ∷ []) is.words is.unread row is.are is.spelling in let e : 97 ≡ 117 = ap second_byte (apart (codes "back") w.0 b.0 row w.1 b.1) in omega (arith, e)
+no_statement row (Says (kinds_of_line.One (calls.Want at i mw))) b is = let w = first_word (codes "want") (Number at ∷ Number i ∷ Number mw ∷ []) is.words is.unread row is.are is.spelling in let e : 119 ≡ 98 = ap first_byte (apart (codes "want") w.0 b.0 row w.1 b.1) in omega (arith, e)
+no_statement row (Says (kinds_of_line.One (calls.Tick at))) b is = let w = first_word (codes "tick") (Number at ∷ []) is.words is.unread row is.are is.spelling in let e : 116 ≡ 98 = ap first_byte (apart (codes "tick") w.0 b.0 row w.1 b.1) in omega (arith, e)
+no_statement row (Says (kinds_of_line.One (calls.Stop at))) b is = let w = first_word (codes "stop") (Number at ∷ []) is.words is.unread row is.are is.spelling in let e : 115 ≡ 98 = ap first_byte (apart (codes "stop") w.0 b.0 row w.1 b.1) in omega (arith, e)
+no_statement row (Says (kinds_of_line.One (calls.Cap at mw))) b is = let w = first_word (codes "cap") (Number at ∷ Number mw ∷ []) is.words is.unread row is.are is.spelling in let e : 99 ≡ 98 = ap first_byte (apart (codes "cap") w.0 b.0 row w.1 b.1) in omega (arith, e)
 
 -- a row of a script doesn't begin as a bus's line does
 no_bus_row : (row : List ℕ) (rows : List (List ℕ)) (said : List (Option Statement)) → Say (row ∷ rows) said → BeginsWith (codes "bus") row → ⊥
@@ -73,7 +81,7 @@ cut_text row more b is s = by_words s.spelled s.are s.spelling
     by_words (word ∷ words) are e =
         let all : codes "bus" ++ more ≡ codes "bus" ++ (flat_map (λ word. 32 ∷ word) words ++ s.unread) =
         sym is ∙ e ∙ append_assoc word (flat_map (λ word. 32 ∷ word) words) s.unread ∙ ap (λ (x : List ℕ). x ++ (flat_map (λ word. 32 ∷ word) words ++ s.unread)) are.0 in
-        let rest : more ≡ flat_map (λ word. 32 ∷ word) words ++ s.unread = cc in
+        let rest : more ≡ flat_map (λ word. 32 ∷ word) words ++ s.unread = append_cancel_left (codes "bus") more (flat_map (λ word. 32 ∷ word) words ++ s.unread) all in
         record { words = codes "ask" ∷ words; unread = s.unread; are = (refl, are.1); spelling = ap (λ (x : List ℕ). codes "ask" ++ x) rest; is_unread = s.is_unread }
 
 ask_numbers : Statement → ℕ × ℕ × ℕ
@@ -142,8 +150,8 @@ with_comments (row ∷ mid) rows all p q = let more = with_comments mid rows all
 
 comment_ends_not : (row : List ℕ) → IsComment row → EndsBook row → ⊥
 comment_ends_not [] c e = c
-comment_ends_not (byte ∷ row) c (inl (more, e)) = absurd cc
-comment_ends_not (byte ∷ row) c (inr (more, e)) = absurd cc
+comment_ends_not (byte ∷ row) c (inl (more, e)) = let r : byte ≡ 114 = ap first_byte e in omega (arith, r, c)
+comment_ends_not (byte ∷ row) c (inr (more, e)) = let r : byte ≡ 114 = ap first_byte e in omega (arith, r, c)
 
 end_none_back : (mid rows : List (List ℕ)) → EndNoBook (mid ++ rows) → EndNoBook rows
 end_none_back [] rows all = all
