@@ -195,8 +195,15 @@ module _ (buses : List bus.Bus) (site : SiteRecord) (start : ℕ) (entries : Lis
           new_is = e.new_is ∙ ap (part site start) whole;
           text = sym (append-nil (entry_text tick ++ (entry_text one ++ [])));
           each = λ first later is. two_before Safe (Entered tick) (Entered one) first later is at_start safe' (subst (λ (es : List Entry). IsSafeBook buses (book site start es)) whole e.safe);
-          plays = λ more later full p. inr (room, Entered one ∷ later, refl, inr (asked.0 [] (behind_none site start ticked safe'.book_is),
-              inr (e.room, later, refl, subst (λ (es : List Entry). Plays buses (book site start es) more later full) (sym whole) p)));
+          plays = λ more later full p. inr (
+            room,
+            Entered one ∷ later,
+            refl,
+            inr (
+              asked.0 [] (behind_none site start ticked safe'.book_is),
+              inr (e.room, later, refl, subst (λ (es : List Entry). Plays buses (book site start es) more later full) (sym whole) p),
+            ),
+          );
         }
     asked_done (Err full) new room safe' asked under =
         let plants = asked.1 in

@@ -265,6 +265,7 @@ bad_bus bytes a kind p front said rest rows say bad =
         let c = cut p.front front (lines p.rest) (lines rest) (sym p.rows ∙ rows) le in
         let here = say_back c.rows (lines rest) p.script.is_script.said (subst (λ (x : List (List ℕ)). Say x p.script.is_script.said) c.rest_is p.script.is_script.say) in
         bad_in_script kind (buses_of said) (lines rest) here.0 here.1 bad
+
     within : length front < length p.front → ⊥
     within less =
         let c = cut front p.front (lines rest) (lines p.rest) (sym rows ∙ p.rows) (omega (arith, less)) in
@@ -288,6 +289,7 @@ bad_script bytes a kind line p front said rest rows say begins bad =
         let more = behind front c.rows p.said said (subst (λ (x : List (List ℕ)). SayBuses x p.said) c.before_is p.say) say in
         let parts = by_begin c.rows (lines p.rest) more.more more.say (subst BeginsNoBus c.rest_is begins) in
         one.not_both rest a.script line kind (put_comments rest p.rest c.rows a.script c.rest_is parts.comments p.script) bad
+
     behind_front : length p.front ≤ length front → ⊥
     behind_front le =
         let c = cut p.front front (lines p.rest) (lines rest) (sym p.rows ∙ rows) le in

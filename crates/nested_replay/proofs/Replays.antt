@@ -49,8 +49,7 @@ site_refused bytes front size fault j is = record { nested = nested_of front j.o
 
 pub no_memory : (bytes : List ℕ) (front : fronts.Front) (size : sizes.SiteSize) (j : IsJudged bytes front size) → None ≡ open_fault j.one.script.site → Explains faults.NoMemory bytes
 no_memory bytes front size j none =
-    let nested = is_nested bytes front j.one.script j.front_is j.one.is_script in
-    (
+    let nested = is_nested bytes front j.one.script j.front_is j.one.is_script in (
       (λ line kind bad. not_both bytes (nested_of front j.one.script) line kind nested bad),
       (λ fault refused. none-some fault (none ∙ ap (λ (n : NestedRecord). open_fault n.script.site) (one_nested bytes (nested_of front j.one.script) refused.nested nested refused.is_nested) ∙ refused.refused)),
     )

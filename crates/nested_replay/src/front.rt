@@ -7,8 +7,8 @@ ghost use Rattle.nested_replay.specs.Reading.{IsBusOf, IsFrontRow, BusRead, IsFr
 use busbars::{BUSES_MAX, Bus};
 use limiter_num::NoMemory;
 use one_life_script::{begins_with, three_numbers};
-use script_text::number::behind_row;
 use script_text::LineKind;
+use script_text::number::behind_row;
 use std::alloc::Global;
 
 /// What a bus's cap is at most, in mW.

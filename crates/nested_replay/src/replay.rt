@@ -62,11 +62,13 @@ fn open<'a>(alloc: Global, front: &Front<'a>, size: &SiteSize) -> Result<Opened<
     requires low { AllByRecursion (λ bus. bus.cap ≤ 10 ^ 14) (front_buses front.now) }
     ensures { MatchResult result (λ opened. OpensFront front.now opened) (λ fault. NotOpened front.now fault) }
 {
-    let Ok(Begun {
-        site,
-        start,
-        mut lines,
-    }) = read_head(alloc, front.script)
+    let Ok(
+        Begun {
+            site,
+            start,
+            mut lines,
+        },
+    ) = read_head(alloc, front.script)
     else {
         return Err(NestedFault::NoMemory);
     };

@@ -6,7 +6,9 @@ use std::process::Abort;
 use std::test::Fail;
 
 const SITE: &str = "site 10000000 1000 4000 60 20 500 open 1000\n";
+
 const UNIT: &str = "inverter 6000 0 -1 100\n";
+
 const BUS: &str = "bus 4000000 0 1\n";
 
 /// What comes of an input.
@@ -20,12 +22,7 @@ fn replayed(
 }
 
 /// Whether the lines of an input's text end with these.
-fn ends_with(
-    rt: &impl Abort,
-    alloc: Global,
-    text: &str,
-    lines: &str,
-) -> Result<bool, Fail> {
+fn ends_with(rt: &impl Abort, alloc: Global, text: &str, lines: &str) -> Result<bool, Fail> {
     match replayed(rt, alloc, text)? {
         Ok(done) => Ok(done.text.ends_with(lines.as_bytes())),
         Err(_) => Err("no replay".into()),
@@ -48,14 +45,23 @@ fn asserts_bad(
 #[test]
 fn an_ask_that_a_bus_refuses(rt: HostRuntime) -> Result<(), Fail> {
     let alloc = rt.alloc();
-    let head = format!(in alloc; "{BUS}{BUS}# r\n{BUS}{SITE}{UNIT}{UNIT}begin 0\nlink 0 0\nlink 0 1\n")?;
+    let head = format!(in alloc;
+        "{BUS}{BUS}# r\n{BUS}{SITE}{UNIT}{UNIT}begin 0\nlink 0 0\nlink 0 1\n"
+    )?;
     let full = format!(in alloc; "{head}ask 66701 0 1000\n")?;
     let lines = "tick 66701 = total 1200000\nask 66701 0 1000 = busfull 0 2800000\n";
     assert!(rt; ends_with(&rt, alloc, full.as_str(), lines)?);
     let fits = format!(in alloc; "{head}ask 66701 0 566\n")?;
     assert!(rt; ends_with(&rt, alloc, fits.as_str(), "ask 66701 0 566 = granted 1 1\n")?);
     let above = format!(in alloc; "{head}ask 66701 0 567\n")?;
-    assert!(rt; ends_with(&rt, alloc, above.as_str(), "ask 66701 0 567 = busfull 0 2800000\n")?);
+    assert!(rt;
+        ends_with(
+            &rt,
+            alloc,
+            above.as_str(),
+            "ask 66701 0 567 = busfull 0 2800000\n"
+        )?
+    );
     Ok(())
 }
 
@@ -82,15 +88,24 @@ fn a_bus_that_is_refused(rt: HostRuntime) -> Result<(), Fail> {
     let range = format!(in alloc; "bus 9000000 0 3\n{rest}")?;
     let fault = replayed(&rt, alloc, range.as_str())?.err();
     let cause = BusCause::Range;
-    assert_eq!(rt; fault, Some(NestedFault::BadBus(BusFault { bus: 0, cause })));
+    assert_eq!(rt;
+        fault,
+        Some(NestedFault::BadBus(BusFault { bus: 0, cause }))
+    );
     let crossing = format!(in alloc; "bus 9000000 0 1\nbus 9000000 1 2\n{rest}")?;
     let fault = replayed(&rt, alloc, crossing.as_str())?.err();
     let cause = BusCause::Crossing;
-    assert_eq!(rt; fault, Some(NestedFault::BadBus(BusFault { bus: 1, cause })));
+    assert_eq!(rt;
+        fault,
+        Some(NestedFault::BadBus(BusFault { bus: 1, cause }))
+    );
     let over = format!(in alloc; "bus 1199999 0 1\n{rest}")?;
     let fault = replayed(&rt, alloc, over.as_str())?.err();
     let cause = BusCause::FloorsOver(1_200_000);
-    assert_eq!(rt; fault, Some(NestedFault::BadBus(BusFault { bus: 0, cause })));
+    assert_eq!(rt;
+        fault,
+        Some(NestedFault::BadBus(BusFault { bus: 0, cause }))
+    );
     Ok(())
 }
 
@@ -103,7 +118,10 @@ fn a_full_book(rt: HostRuntime) -> Result<(), Fail> {
         return Err("no replay".into());
     };
     assert_eq!(rt; done.full, Some(2));
-    assert!(rt; done.text.ends_with(b"link 0 0 = linked 1\ntick 66701 = total 600000\n"));
+    assert!(rt;
+        done.text
+            .ends_with(b"link 0 0 = linked 1\ntick 66701 = total 600000\n")
+    );
     let one = format!(in alloc; "site 10000000 1000 4000 60 20 500 open 1\n{rest}")?;
     let Ok(done) = replayed(&rt, alloc, one.as_str())? else {
         return Err("no replay".into());
