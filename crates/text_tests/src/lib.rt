@@ -2,6 +2,10 @@
 #![tactic(auto)]
 
 #[cfg(test)]
+mod nested;
+#[cfg(test)]
+mod one_life;
+#[cfg(test)]
 mod scripts;
 #[cfg(test)]
 mod sites;
