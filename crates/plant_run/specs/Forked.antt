@@ -71,7 +71,7 @@ pub record AllRunOut {D N Kept : Type 0} (state : D → DeskState) (tests : D �
 
 -- each worker is between two turns, and its desk has its inverter
 abbrev pub EachReady : {D : Type 0} → (state : D → DeskState) → (workers : List WorkerRecord)
-→ (desks : List D) → Type 0
+    → (desks : List D) → Type 0
 EachReady {D} state workers desks = (place : ℕ) (worker : WorkerRecord) (desk : D)
     → slice_get workers place ≡ Some worker → slice_get desks place ≡ Some desk
     → (worker.job.inverter < (state desk).inverters) × IsBetweenTurns worker.state.step
