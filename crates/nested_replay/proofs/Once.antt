@@ -20,16 +20,12 @@ use Rattle.script_text.proofs.Spelled as spelled
 use Rattle.one_life_script.specs.Rows.{BeginsWith, SpellsWords}
 use Rattle.one_life_script.specs.OneLife.{EndsBook, EndNoBook, IsOneLifeScript, IsFirstBadLineOfOne}
 use Rattle.one_life_script.proofs.Ends.{Cut, cut}
+use Rattle.one_life_script.proofs.Calls.{first_word}
 use Rattle.one_life_script.proofs.Once as one
 use Rattle.busbars.specs.declared.bus.Bus as bus
 use Rattle.nested_replay.specs.Nested.{bus_words, IsBusInRange, SayBuses, buses_of, BeginsNoBus, NestedRecord, IsNested, IsBadBus, IsBadBusFirst, IsFirstBadNested}
 
 -- what a bus's line is not
-
-first_word : (text : List ℕ) (kinds : List Word) (words : List (List ℕ)) (unread row : List ℕ) → AreWords (Text text ∷ kinds) words → row ≡ spaced words ++ unread → BeginsWith text row
-first_word text kinds [] unread row are is = absurd are
-first_word text kinds (word ∷ words) unread row are is =
-    (flat_map (λ word. 32 ∷ word) words ++ unread, is ∙ append_assoc word (flat_map (λ word. 32 ∷ word) words) unread ∙ ap (λ (x : List ℕ). x ++ (flat_map (λ word. 32 ∷ word) words ++ unread)) are.0)
 
 begins_of : (row : List ℕ) (b : bus.Bus) → SpellsWords row (bus_words b) → BeginsWith (codes "bus") row
 begins_of row b s = first_word (codes "bus") (Number b.cap ∷ Number b.lo ∷ Number b.hi ∷ []) s.spelled s.unread row s.are s.spelling

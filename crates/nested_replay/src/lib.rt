@@ -6,6 +6,7 @@
 
 mod front;
 mod judging;
+mod laws;
 mod playing;
 mod reading;
 mod replay;
@@ -13,4 +14,5 @@ mod replay;
 mod tests;
 mod writing;
 
+pub use laws::{one_nested_reading, one_nested_replay};
 pub use replay::{NestedFault, Replayed, replay_nested};

@@ -72,7 +72,8 @@ pub next_ends : (a b : List (List ℕ)) → EndNoBook (a ++ b) → IsNoEnd b
 next_ends a [] all = tt
 next_ends a (row ∷ more) all = has_place (λ row. EndsBook row → ⊥) a row more all
 
-says_nothing : (one : Option Statement) (more : List (Option Statement)) → Say [] (one ∷ more) → ⊥
+-- no rows say nothing
+pub says_nothing : (one : Option Statement) (more : List (Option Statement)) → Say [] (one ∷ more) → ⊥
 says_nothing None more say = say
 says_nothing (Some statement) more say = say
 
