@@ -1,6 +1,5 @@
 -- An input has one replay, or a fault.
-use Rattle.std.proofs.Common.{◌≡◌, ℕ, ◌<◌, ◌≤◌, ◌⊎◌, inl, inr, List, [], ◌∷◌, ◌++◌, length, map, Option, Some, None, refl, sym, ap, subst, ◌∙◌, arith, append_assoc, length-append, true, false, eqb, ltb}
-use Rattle.std.specs.List.{AllByRecursion}
+use Rattle.std.proofs.Common.{◌≡◌, ℕ, ◌<◌, ◌⊎◌, inl, inr, List, [], ◌∷◌, ◌++◌, length, map, Option, None, refl, sym, ap, subst, ◌∙◌, arith, append_assoc, false, eqb, ltb}
 use Rattle.std.proofs.lemmas.Bool.{cases_order, ne_eqb, le-ltb}
 use Rattle.std.proofs.lemmas.Option.{none-some}
 use Rattle.std.proofs.lemmas.List.{append-nil}
@@ -10,11 +9,9 @@ use Rattle.plant_book.specs.Site.{SiteRecord, inverters, floors}
 use Rattle.plant_book.specs.Book.{BookRecord}
 use Rattle.plant_book.specs.Answered.{IsOpenable}
 use Rattle.plant_book.proofs.Growing.{has_place}
-use Rattle.plant_ledger.specs.declared.opening.OpenFault.{OpenFault}
 use Rattle.plant_ledger.specs.Opening.{open_fault}
 use Rattle.script_text.specs.declared.line.Line.{Line}
 use Rattle.script_text.specs.declared.line.Line.TheVariants as lines
-use Rattle.script_text.specs.declared.line.LineKind.{LineKind}
 use Rattle.busbars.specs.declared.bus.Bus as bus
 use Rattle.busbars.specs.declared.bus.BusCause.{BusCause}
 use Rattle.busbars.specs.declared.bus.BusCause.TheVariants as causes
@@ -23,9 +20,9 @@ use Rattle.busbars.specs.Buses.{Fits, EachFits, HasCause, IsFirstFault}
 use Rattle.busbars.specs.Caps.{left_on, LacksRoom, HasRoomOnAll, IsFirstFull}
 use Rattle.nested_replay.specs.declared.replay.NestedFault.{NestedFault}
 use Rattle.nested_replay.specs.declared.replay.NestedFault.TheVariants as faults
-use Rattle.nested_replay.specs.Nested.{NestedRecord, IsNested}
+use Rattle.nested_replay.specs.Nested.{NestedRecord}
 use Rattle.nested_replay.specs.Played.{Deed, Entered, Refused, entry_for, with_call, HasPlaceFor, IsStopped, Plays, book_of, nested_text}
-use Rattle.nested_replay.specs.Replay.{IsNestedReplay, IsSiteRefused, IsBusRefused, Explains}
+use Rattle.nested_replay.specs.Replay.{IsNestedReplay, Explains}
 use Rattle.nested_replay.proofs.Once.{one_nested, not_both}
 
 -- the first full bus is one

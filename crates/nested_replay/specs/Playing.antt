@@ -7,20 +7,19 @@ use Rattle.plant_book.specs.declared.call.TheConstants.{MOMENT_MAX}
 use Rattle.plant_book.specs.Site.{SiteRecord, inverters}
 use Rattle.plant_book.specs.Calls.{moment, named}
 use Rattle.plant_book.specs.Book.{BookRecord}
-use Rattle.plant_book.specs.Part.{PartRecord, first_book}
+use Rattle.plant_book.specs.Part.{PartRecord}
 use Rattle.plant_book.specs.Answered.{IsInRange, IsBook}
 use Rattle.plant_ledger.specs.declared.plant.BookFull.{BookFull}
 use Rattle.script_text.specs.declared.line.Line.{Line}
 use Rattle.script_text.specs.declared.line.Line.TheVariants as lines
 use Rattle.script_text.specs.declared.lines.Lines.{Lines}
 use Rattle.script_text.specs.Script.{ScriptRecord, IsScript}
-use Rattle.script_text.specs.Reader.{HasRead, CanGoOn, bytes_ahead, with_lines}
+use Rattle.script_text.specs.Reader.{HasRead, bytes_ahead, with_lines}
 use Rattle.script_text.specs.Text.{entry_text}
 use Rattle.one_life_script.specs.OneLife.{IsOneLifeScript}
 use Rattle.busbars.specs.declared.bus.Bus as bus
 use Rattle.busbars.specs.declared.plant.BusReply.{BusReply}
 use Rattle.busbars.specs.declared.plant.BusReply.TheVariants as replies
-use Rattle.busbars.specs.declared.bus.BusFault.{BusFault}
 use Rattle.busbars.specs.Buses.{EachFits, IsFirstFault}
 use Rattle.busbars.specs.Caps.{ReservesUnderCaps}
 use Rattle.busbars.specs.Applied.{BusPlantRecord, IsApplied}
