@@ -1,5 +1,5 @@
 -- Reading the calls of a script of one life.
-use Rattle.std.proofs.Common.{◌≡◌, ℕ, ◌<◌, ◌≤◌, List, [], ◌∷◌, ◌++◌, length, map, Option, Some, None, Result, Ok, Err, true, refl, sym, ap, subst, ◌∙◌, append_assoc, arith}
+use Rattle.std.proofs.Common.{◌≡◌, ℕ, ◌<◌, ◌≤◌, List, [], ◌∷◌, ◌++◌, length, map, Result, Ok, Err, true, refl, sym, ap, subst, ◌∙◌, append_assoc}
 use Rattle.std.specs.Prelude.{IfSome, MatchResult}
 use Rattle.std.specs.List.{flat_map}
 use Rattle.std.specs.Result.{is_err}
@@ -7,9 +7,8 @@ use Rattle.std.proofs.lemmas.List.{append-nil, map-append}
 use Rattle.std.proofs.lemmas.List.Concat.{flat_map-append}
 use Rattle.plant_book.specs.declared.call.Call.{Call}
 use Rattle.plant_book.specs.declared.call.TheConstants.{MOMENT_MAX}
-use Rattle.plant_book.specs.Site.{SiteRecord, inverters}
-use Rattle.plant_book.specs.Calls.{moment, named}
-use Rattle.plant_book.specs.Answered.{IsInRange}
+use Rattle.plant_book.specs.Site.{inverters}
+use Rattle.plant_book.specs.Calls.{named}
 use Rattle.script_text.specs.declared.line.Line.{Line}
 use Rattle.script_text.specs.declared.line.Line.TheVariants as lines
 use Rattle.script_text.specs.declared.lines.Lines.{Lines}

@@ -5,3 +5,4 @@ pub mod Deeds
 pub mod Playings
 pub mod Once
 pub mod Replays
+pub mod OneReplay

@@ -1,5 +1,5 @@
 -- An input is one list of buses and one script at most, or it has a bad line.
-use Rattle.std.proofs.Common.{◌≡◌, ℕ, suc, ◌+◌, ◌^◌, ◌<◌, ◌≤◌, ◌⊎◌, inl, inr, List, [], ◌∷◌, ◌++◌, length, Option, Some, None, refl, sym, ap, subst, ◌∙◌, arith, append_assoc, length-append}
+use Rattle.std.proofs.Common.{◌≡◌, ℕ, ◌+◌, ◌<◌, ◌≤◌, inl, inr, List, [], ◌∷◌, ◌++◌, length, Option, Some, None, refl, sym, ap, subst, ◌∙◌, arith, append_assoc, length-append}
 use Rattle.std.specs.Prelude.{codes}
 use Rattle.std.specs.List.{flat_map}
 use Rattle.std.specs.Option.{option_to_list}
@@ -8,28 +8,23 @@ use Rattle.std.proofs.lemmas.Bool.{cases_order}
 use Rattle.std.proofs.lemmas.List.{append-nil, append_cancel_left}
 use Rattle.std.proofs.lemmas.List.Concat.{flat_map-append}
 use Rattle.plant_book.specs.declared.call.Call.TheVariants as calls
-use Rattle.script_text.specs.declared.line.Line.{Line}
 use Rattle.script_text.specs.declared.line.Line.TheVariants as kinds_of_line
 use Rattle.script_text.specs.declared.line.LineKind.{LineKind}
 use Rattle.script_text.specs.declared.line.LineKind.TheVariants as kinds
-use Rattle.script_text.specs.Words.{Word, Text, Number, Signed, AreWords, spaced}
+use Rattle.script_text.specs.Words.{Text, Number, Signed, AreWords, spaced}
 use Rattle.script_text.specs.Grammar.{Statement, Site, Inverter, Begin, Says, IsSpelled, IsComment, policy_word}
-use Rattle.script_text.specs.Script.{ScriptRecord, Say, statements_of, IsScript, script_statements}
+use Rattle.script_text.specs.Script.{ScriptRecord, Say, statements_of}
 use Rattle.script_text.proofs.Spelled.{spelled_once}
 use Rattle.script_text.proofs.Spelled as spelled
 use Rattle.one_life_script.specs.Rows.{BeginsWith, SpellsWords}
 use Rattle.one_life_script.specs.OneLife.{EndsBook, EndNoBook, IsOneLifeScript, IsFirstBadLineOfOne}
-use Rattle.one_life_script.proofs.Ends.{Cut, cut}
+use Rattle.one_life_script.proofs.Ends.{cut}
+use Rattle.one_life_script.proofs.Calls.{first_word}
 use Rattle.one_life_script.proofs.Once as one
 use Rattle.busbars.specs.declared.bus.Bus as bus
 use Rattle.nested_replay.specs.Nested.{bus_words, IsBusInRange, SayBuses, buses_of, BeginsNoBus, NestedRecord, IsNested, IsBadBus, IsBadBusFirst, IsFirstBadNested}
 
 -- what a bus's line is not
-
-first_word : (text : List ℕ) (kinds : List Word) (words : List (List ℕ)) (unread row : List ℕ) → AreWords (Text text ∷ kinds) words → row ≡ spaced words ++ unread → BeginsWith text row
-first_word text kinds [] unread row are is = absurd are
-first_word text kinds (word ∷ words) unread row are is =
-    (flat_map (λ word. 32 ∷ word) words ++ unread, is ∙ append_assoc word (flat_map (λ word. 32 ∷ word) words) unread ∙ ap (λ (x : List ℕ). x ++ (flat_map (λ word. 32 ∷ word) words ++ unread)) are.0)
 
 begins_of : (row : List ℕ) (b : bus.Bus) → SpellsWords row (bus_words b) → BeginsWith (codes "bus") row
 begins_of row b s = first_word (codes "bus") (Number b.cap ∷ Number b.lo ∷ Number b.hi ∷ []) s.spelled s.unread row s.are s.spelling

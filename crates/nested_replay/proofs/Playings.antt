@@ -1,6 +1,5 @@
 -- Going on call by call.
-use Rattle.std.proofs.Common.{◌≡◌, ℕ, List, [], ◌∷◌, ◌++◌, map, Option, Some, None, Ok, Err, refl, sym, ap, subst, ◌∙◌}
-use Rattle.std.specs.Prelude.{MatchOption}
+use Rattle.std.proofs.Common.{◌≡◌, ℕ, List, [], ◌∷◌, ◌++◌, Some, None, refl, sym, ap, subst, ◌∙◌}
 use Rattle.std.specs.List.{flat_map}
 use Rattle.std.proofs.lemmas.List.{append-nil}
 use Rattle.plant_book.specs.declared.call.Call.{Call}
@@ -8,7 +7,7 @@ use Rattle.plant_book.specs.declared.book.Entry.{Entry}
 use Rattle.plant_book.specs.Site.{SiteRecord}
 use Rattle.plant_book.specs.Part.{PartRecord, book_behind}
 use Rattle.plant_book.specs.Answered.{IsBook}
-use Rattle.plant_book.specs.Carry.{IsBehind, EachBook}
+use Rattle.plant_book.specs.Carry.{EachBook}
 use Rattle.plant_ledger.specs.Plant.{IsKept}
 use Rattle.script_text.specs.declared.line.Line.TheVariants as lines
 use Rattle.script_text.specs.declared.lines.Lines.{Lines}
@@ -26,8 +25,8 @@ use Rattle.busbars.specs.declared.bus.Bus as bus
 use Rattle.busbars.specs.Caps.{ReservesUnderCaps}
 use Rattle.busbars.specs.Applied.{BusPlantRecord}
 use Rattle.nested_replay.specs.declared.replay.Opened.{Opened}
-use Rattle.nested_replay.specs.Played.{Deed, Plays, book_of, bus_text, nested_text}
-use Rattle.nested_replay.specs.Playing.{IsReading, CallRead, NextCall, Steps, IsSafeBook, EachSafe, part_of, Stands, IsPlaying, IsPlayed, bytes_of, script_at, IsOpened, OpensFront}
+use Rattle.nested_replay.specs.Played.{Deed, book_of, bus_text}
+use Rattle.nested_replay.specs.Playing.{IsReading, CallRead, NextCall, Steps, IsSafeBook, part_of, IsPlaying, IsPlayed, bytes_of, script_at, IsOpened, OpensFront}
 use Rattle.nested_replay.proofs.Calls.{rest_are_calls}
 use Rattle.nested_replay.proofs.Deeds.{stands_on, full_played, all_played}
 

@@ -1,31 +1,26 @@
 -- From an input to its replay.
-use Rattle.std.proofs.Common.{◌≡◌, ℕ, ◌≤◌, List, [], ◌∷◌, ◌++◌, length, Option, Some, None, refl, sym, ap, subst, ◌∙◌, arith}
+use Rattle.std.proofs.Common.{◌≡◌, ℕ, List, [], Option, Some, None, refl, sym, ap, subst, ◌∙◌}
 use Rattle.std.proofs.lemmas.Option.{none-some}
-use Rattle.std.proofs.lemmas.List.{append-nil}
 use Rattle.plant_book.specs.Site.{SiteRecord}
-use Rattle.plant_book.specs.Part.{PartRecord, book_behind}
-use Rattle.plant_book.specs.Carry.{IsBehind}
 use Rattle.plant_ledger.specs.declared.opening.OpenFault.{OpenFault}
 use Rattle.plant_ledger.specs.Opening.{open_fault}
 use Rattle.plant_ledger.proofs.Kept.{kept_sound}
-use Rattle.script_text.specs.declared.line.LineKind.{LineKind}
 use Rattle.script_text.specs.declared.size.SiteSize as sizes
-use Rattle.script_text.specs.Script.{ScriptRecord, IsScript}
+use Rattle.script_text.specs.Script.{ScriptRecord}
 use Rattle.script_text.proofs.Once as script
-use Rattle.one_life_script.specs.OneLife.{IsOneLifeScript, HasOneLife}
+use Rattle.one_life_script.specs.OneLife.{IsOneLifeScript}
 use Rattle.busbars.specs.declared.bus.Bus as bus
-use Rattle.busbars.specs.declared.bus.BusFault.{BusFault}
 use Rattle.busbars.specs.Buses.{EachFits, IsFirstFault}
 use Rattle.busbars.proofs.Under.{holds_under}
 use Rattle.nested_replay.specs.declared.front.Front as fronts
 use Rattle.nested_replay.specs.declared.replay.Opened.{Opened}
 use Rattle.nested_replay.specs.declared.replay.NestedFault.{NestedFault}
 use Rattle.nested_replay.specs.declared.replay.NestedFault.TheVariants as faults
-use Rattle.nested_replay.specs.Nested.{NestedRecord, IsNested, IsFirstBadNested}
+use Rattle.nested_replay.specs.Nested.{NestedRecord, IsNested}
 use Rattle.nested_replay.specs.Reading.{IsFront, IsJudged, front_buses}
-use Rattle.nested_replay.specs.Played.{Deed, book_of, entries_of}
-use Rattle.nested_replay.specs.Playing.{IsSafeBook, IsPlayed, IsOpened, OpensFront, NotOpened, bytes_of}
-use Rattle.nested_replay.specs.Replay.{IsNestedReplay, IsSiteRefused, IsBusRefused, IsBadNested, Explains}
+use Rattle.nested_replay.specs.Played.{book_of, entries_of}
+use Rattle.nested_replay.specs.Playing.{IsPlayed, OpensFront, NotOpened, bytes_of}
+use Rattle.nested_replay.specs.Replay.{IsNestedReplay, IsSiteRefused, IsBadNested, Explains}
 use Rattle.nested_replay.proofs.Rows.{taken_few}
 use Rattle.nested_replay.proofs.Once.{one_nested, not_both}
 

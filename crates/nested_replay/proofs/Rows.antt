@@ -1,27 +1,24 @@
 -- The rows in front of a script.
-use Rattle.std.proofs.Common.{◌≡◌, ℕ, zero, suc, ◌+◌, ◌^◌, ◌<◌, ◌≤◌, inl, inr, List, [], ◌∷◌, ◌++◌, length, take, set, Option, Some, None, refl, sym, ap, subst, ◌∙◌, append_assoc, length-append, arith}
+use Rattle.std.proofs.Common.{◌≡◌, ℕ, zero, suc, ◌+◌, ◌^◌, ◌<◌, ◌≤◌, inl, inr, List, [], ◌∷◌, ◌++◌, length, take, Option, Some, None, refl, sym, ap, subst, ◌∙◌, length-append, arith}
 use Rattle.std.specs.Prelude.{codes}
-use Rattle.std.specs.List.{AllByRecursion, flat_map}
+use Rattle.std.specs.List.{AllByRecursion}
 use Rattle.std.specs.Option.{option_to_list}
 use Rattle.std.specs.Str.Lines.{lines}
 use Rattle.std.proofs.lemmas.List.{append-nil}
 use Rattle.std.proofs.lemmas.List.Concat.{flat_map-append}
 use Rattle.script_text.specs.declared.line.LineKind.{LineKind}
-use Rattle.script_text.specs.declared.line.LineKind.TheVariants as kinds
 use Rattle.script_text.specs.declared.fault.ScriptFault.{ScriptFault}
 use Rattle.script_text.specs.declared.fault.ScriptFault.TheVariants as readings
-use Rattle.script_text.specs.declared.size.SiteSize as sizes
 use Rattle.script_text.specs.Grammar.{IsComment}
 use Rattle.script_text.specs.Reading.{row_at, behind_row}
 use Rattle.script_text.proofs.LineEnds.{lines_first}
 use Rattle.script_text.proofs.Taken.{behind_short, comment_some}
 use Rattle.one_life_script.specs.Rows.{BeginsWith, SpellsWords, ThreeFound}
-use Rattle.one_life_script.specs.OneLife.{IsFirstBadLineOfOne, IsBadOneLife}
+use Rattle.one_life_script.specs.OneLife.{IsBadOneLife}
 use Rattle.one_life_script.proofs.Ends.{rows_past}
 use Rattle.busbars.specs.declared.bus.Bus as bus
 use Rattle.nested_replay.specs.declared.front.Front as fronts
-use Rattle.nested_replay.specs.declared.replay.NestedFault.TheVariants as faults
-use Rattle.nested_replay.specs.Nested.{bus_words, IsBusInRange, SayBuses, buses_of, BeginsNoBus, IsBadBus, IsBadBusFirst, IsFirstBadNested}
+use Rattle.nested_replay.specs.Nested.{bus_words, IsBusInRange, SayBuses, buses_of, BeginsNoBus, IsBadBusFirst, IsFirstBadNested}
 use Rattle.nested_replay.specs.Reading.{IsBusOf, IsBadBehind, FrontRead, IsFront, FrontFault, front_buses}
 use Rattle.nested_replay.specs.Replay.{IsBadNested, moved_fault, FitsBehind}
 

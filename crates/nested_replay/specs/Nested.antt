@@ -78,7 +78,8 @@ pub record IsFirstBadNested (bytes : List ℕ) (number : ℕ) (kind : LineKind) 
   pub say : SayBuses front said
   pub few : length (buses_of said) ≤ 32
   pub bad : (IsBadBusFirst kind (buses_of said) (lines rest) × (number ≡ length front + 1))
-      ⊎ (BeginsNoBus (lines rest) × (line : ℕ) × IsFirstBadLineOfOne rest line kind × (number ≡ length front + line))
+      ⊎ (BeginsNoBus (lines rest) × (line : ℕ) × IsFirstBadLineOfOne rest line kind
+      × (number ≡ length front + line))
 
 -- the bytes have no bad line
 abbrev pub HasNoBadNested : List ℕ → Type 0

@@ -37,7 +37,8 @@ HasPlaceFor book = length book.entries < book.site.room
 
 -- no call is done where the book is at its room
 abbrev pub IsStopped : BookRecord → List Deed → Option ℕ → Type 0
-IsStopped book deeds full = (book.site.room ≤ length book.entries) × (deeds ≡ []) × (full ≡ Some (length book.entries))
+IsStopped book deeds full =
+    (book.site.room ≤ length book.entries) × (deeds ≡ []) × (full ≡ Some (length book.entries))
 
 -- What is done of calls behind a book, and at how many calls the book was full, if an entry found it so. Each call is
 -- entered. Before an Ask a Tick of its moment is; then the first bus that lacks the room refuses it, or it is entered.
@@ -73,7 +74,8 @@ book_of site start deeds = record { site = site; start = start; entries = entrie
 abbrev pub deed_text : Deed → List ℕ
 deed_text (Entered entry) = entry_text entry
 deed_text (Refused at inverter raw bus left) =
-    replied_text (call_words (calls.Ask at inverter raw)) (Text (codes "busfull") ∷ Number bus ∷ Number left ∷ [])
+    replied_text (call_words (calls.Ask at inverter raw))
+    (Text (codes "busfull") ∷ Number bus ∷ Number left ∷ [])
 
 -- a bus's line: its words alone
 abbrev pub bus_text : bus.Bus → List ℕ

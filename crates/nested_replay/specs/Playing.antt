@@ -7,20 +7,19 @@ use Rattle.plant_book.specs.declared.call.TheConstants.{MOMENT_MAX}
 use Rattle.plant_book.specs.Site.{SiteRecord, inverters}
 use Rattle.plant_book.specs.Calls.{moment, named}
 use Rattle.plant_book.specs.Book.{BookRecord}
-use Rattle.plant_book.specs.Part.{PartRecord, first_book}
+use Rattle.plant_book.specs.Part.{PartRecord}
 use Rattle.plant_book.specs.Answered.{IsInRange, IsBook}
 use Rattle.plant_ledger.specs.declared.plant.BookFull.{BookFull}
 use Rattle.script_text.specs.declared.line.Line.{Line}
 use Rattle.script_text.specs.declared.line.Line.TheVariants as lines
 use Rattle.script_text.specs.declared.lines.Lines.{Lines}
 use Rattle.script_text.specs.Script.{ScriptRecord, IsScript}
-use Rattle.script_text.specs.Reader.{HasRead, CanGoOn, bytes_ahead, with_lines}
+use Rattle.script_text.specs.Reader.{HasRead, bytes_ahead, with_lines}
 use Rattle.script_text.specs.Text.{entry_text}
 use Rattle.one_life_script.specs.OneLife.{IsOneLifeScript}
 use Rattle.busbars.specs.declared.bus.Bus as bus
 use Rattle.busbars.specs.declared.plant.BusReply.{BusReply}
 use Rattle.busbars.specs.declared.plant.BusReply.TheVariants as replies
-use Rattle.busbars.specs.declared.bus.BusFault.{BusFault}
 use Rattle.busbars.specs.Buses.{EachFits, IsFirstFault}
 use Rattle.busbars.specs.Caps.{ReservesUnderCaps}
 use Rattle.busbars.specs.Applied.{BusPlantRecord, IsApplied}
@@ -60,12 +59,14 @@ pub record CallRead (old : Lines) (call : Call) (new : Lines) : Type 0 where
 
 -- what came of reading one more call: the call, or the end of the script
 abbrev pub NextCall : Lines → Lines → Option Call → Type 0
-NextCall old new None = (script : ScriptRecord) → HasRead (bytes_of old) script old → IsScript (bytes_of old) script
+NextCall old new None =
+    (script : ScriptRecord) → HasRead (bytes_of old) script old → IsScript (bytes_of old) script
 NextCall old new (Some call) = CallRead old call new
 
 -- the line of an Ask that a bus refused
 abbrev pub refused_text : Call → BusReply → List ℕ
-refused_text (calls.Ask at inverter raw) (replies.BusFull bus left) = deed_text (Refused at inverter raw bus left)
+refused_text (calls.Ask at inverter raw) (replies.BusFull bus left) =
+    deed_text (Refused at inverter raw bus left)
 refused_text _ _ = []
 
 abbrev pub told_text : Call → Result BusReply BookFull → List ℕ
@@ -78,7 +79,8 @@ full_in (Ok reply) = None
 full_in (Err full) = Some full.calls
 
 -- a call was done on a plant with buses, and what was done of it was added to a text
-pub record Steps (call : Call) (old new : BusPlantRecord) (before after : List ℕ) (full : Option ℕ) : Type 0 where
+pub record Steps
+    (call : Call) (old new : BusPlantRecord) (before after : List ℕ) (full : Option ℕ) : Type 0 where
   pub answer : Result BusReply BookFull
   pub applied : IsApplied old.buses call answer old.book new.book
   pub buses : new.buses ≡ old.buses
@@ -155,6 +157,7 @@ pub record OpensFront (front : fronts.Front) (opened : Opened) : Type 0 where
 -- why a plant isn't opened with these buses: a bus is refused, or want of memory
 abbrev pub NotOpened : fronts.Front → NestedFault → Type 0
 NotOpened front (faults.BadBus fault) =
-    (script : ScriptRecord) × IsScript front.script.now script × IsFirstFault script.site (front_buses front) fault
+    (script : ScriptRecord) × IsScript front.script.now script
+    × IsFirstFault script.site (front_buses front) fault
 NotOpened front faults.NoMemory = Unit {0}
 NotOpened front _ = ⊥

@@ -6,9 +6,11 @@
 
 mod front;
 mod judging;
+mod laws;
 mod playing;
 mod reading;
 mod replay;
 mod writing;
 
+pub use laws::{one_nested_reading, one_nested_replay};
 pub use replay::{NestedFault, Replayed, replay_nested};

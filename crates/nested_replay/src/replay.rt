@@ -60,7 +60,9 @@ fn open<'a>(alloc: Global, front: &Front<'a>, size: &SiteSize) -> Result<Opened<
     requires short { length front.now.script.now ≤ SCRIPT_BYTES_MAX }
     requires few { front.now.count ≤ 32 }
     requires low { AllByRecursion (λ bus. bus.cap ≤ 10 ^ 14) (front_buses front.now) }
-    ensures { MatchResult result (λ opened. OpensFront front.now opened) (λ fault. NotOpened front.now fault) }
+    ensures { MatchResult result
+        (λ opened. OpensFront front.now opened)
+        (λ fault. NotOpened front.now fault) }
 {
     let Ok(
         Begun {

@@ -97,7 +97,8 @@ pub fn refused_text(out: &mut Vec<u8>, call: &Call, reply: &BusReply) -> Result<
 /// Adds the lines of the entries of a book from a place on.
 pub fn entries_text(out: &mut Vec<u8>, plant: &Plant, from: u32) -> Result<(), NoMemory>
     requires { from ≤ length plant.now.entries }
-    ensures { OnOk result (out.new.items ≡ out.old.items ++ flat_map entry_text (drop from plant.now.entries)) }
+    ensures { OnOk result (out.new.items
+        ≡ out.old.items ++ flat_map entry_text (drop from plant.now.entries)) }
 {
     for place in from..plant.calls() {
         entry_text(out, &plant.entry(place))?;

@@ -13,7 +13,7 @@ use Rattle.script_text.specs.Script.{ScriptRecord, Say, statements_of, head_stat
 use Rattle.script_text.specs.Reader.{HasRead}
 use Rattle.one_life_script.specs.Rows.{BeginsWith}
 use Rattle.one_life_script.specs.OneLife.{EndsBook, EndNoBook, IsOneLifeScript}
-use Rattle.one_life_script.proofs.Ends.{front_ends}
+use Rattle.one_life_script.proofs.Ends.{front_ends, says_nothing}
 
 -- the statement ends no book
 abbrev IsNoEnd : Statement → Type 0
@@ -21,7 +21,7 @@ IsNoEnd (Says (kinds_of_line.Restart at)) = ⊥
 IsNoEnd (Says kinds_of_line.Roll) = ⊥
 IsNoEnd _ = Unit {0}
 
-first_word : (text : List ℕ) (kinds : List Word) (words : List (List ℕ)) (unread row : List ℕ) → AreWords (Text text ∷ kinds) words → row ≡ spaced words ++ unread → BeginsWith text row
+pub first_word : (text : List ℕ) (kinds : List Word) (words : List (List ℕ)) (unread row : List ℕ) → AreWords (Text text ∷ kinds) words → row ≡ spaced words ++ unread → BeginsWith text row
 first_word text kinds [] unread row are is = absurd are
 first_word text kinds (word ∷ words) unread row are is =
     (flat_map (λ word. 32 ∷ word) words ++ unread, is ∙ append_assoc word (flat_map (λ word. 32 ∷ word) words) unread ∙ ap (λ (x : List ℕ). x ++ (flat_map (λ word. 32 ∷ word) words ++ unread)) are.0)
@@ -33,10 +33,6 @@ no_end row (Begin at) not is = tt
 no_end row (Says (kinds_of_line.One call)) not is = tt
 no_end row (Says (kinds_of_line.Restart at)) not is = not (inl (first_word (codes "restart") (Number at ∷ []) is.words is.unread row is.are is.spelling))
 no_end row (Says kinds_of_line.Roll) not is = not (inr (first_word (codes "roll") [] is.words is.unread row is.are is.spelling))
-
-says_nothing : (one : Option Statement) (more : List (Option Statement)) → Say [] (one ∷ more) → ⊥
-says_nothing None more say = say
-says_nothing (Some statement) more say = say
 
 no_ends : (rows : List (List ℕ)) (said : List (Option Statement)) → EndNoBook rows → Say rows said → AllByRecursion IsNoEnd (statements_of said)
 no_ends [] [] one say = tt

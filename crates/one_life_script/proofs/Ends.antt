@@ -1,6 +1,6 @@
 -- The first row that ends a book, and the first bad line.
-use Rattle.std.proofs.Common.{◌≡◌, ℕ, suc, ◌+◌, ◌<◌, ◌≤◌, inl, inr, List, [], ◌∷◌, ◌++◌, length, Option, Some, None, Result, Ok, Err, refl, sym, ap, subst, ◌∙◌, arith, append_assoc, length-append}
-use Rattle.std.specs.List.{AllByRecursion, flat_map}
+use Rattle.std.proofs.Common.{◌≡◌, ℕ, ◌<◌, ◌≤◌, inl, inr, List, [], ◌∷◌, ◌++◌, length, Option, Some, None, Result, Ok, Err, refl, sym, ap, subst, ◌∙◌, arith, append_assoc, length-append}
+use Rattle.std.specs.List.{AllByRecursion}
 use Rattle.std.specs.Option.{option_to_list}
 use Rattle.std.specs.Str.Lines.{lines}
 use Rattle.std.proofs.lemmas.List.{append-nil}
@@ -72,7 +72,8 @@ pub next_ends : (a b : List (List ℕ)) → EndNoBook (a ++ b) → IsNoEnd b
 next_ends a [] all = tt
 next_ends a (row ∷ more) all = has_place (λ row. EndsBook row → ⊥) a row more all
 
-says_nothing : (one : Option Statement) (more : List (Option Statement)) → Say [] (one ∷ more) → ⊥
+-- no rows say nothing
+pub says_nothing : (one : Option Statement) (more : List (Option Statement)) → Say [] (one ∷ more) → ⊥
 says_nothing None more say = say
 says_nothing (Some statement) more say = say
 

@@ -1,5 +1,5 @@
 -- Rows that begin with a text, and rows of a text and three numbers.
-use Rattle.std.proofs.Common.{◌≡◌, ◌↔◌, ℕ, ◌≤◌, min, inl, inr, IsTrue, MatchOption, Bool, true, false, eqb, ltb, List, [], ◌∷◌, ◌++◌, length, take, drop, Option, Some, None, refl, sym, ap, subst, ◌∙◌, arith, append_assoc}
+use Rattle.std.proofs.Common.{◌≡◌, ◌↔◌, ℕ, ◌≤◌, min, inl, inr, MatchOption, true, false, eqb, ltb, List, [], ◌∷◌, ◌++◌, Option, Some, None, refl, sym, ap, ◌∙◌, arith, append_assoc}
 use denote.Ref.{Bor}
 use Rattle.std.specs.Prelude.{codes, is_some, option_copied}
 use Rattle.std.specs.List.{flat_map}

@@ -1,7 +1,6 @@
 -- Bytes are one script of one life at most, or have one first bad line.
 use Rattle.std.proofs.Common.{◌≡◌, ℕ, ◌<◌, ◌≤◌, ◌⊎◌, inl, inr, List, [], ◌∷◌, ◌++◌, length, Option, Some, None, refl, sym, ap, subst, ◌∙◌, arith, append_assoc, length-append}
 use Rattle.std.specs.Option.{option_to_list}
-use Rattle.std.specs.Str.Lines.{lines}
 use Rattle.std.proofs.lemmas.Bool.{cases_order}
 use Rattle.std.proofs.lemmas.List.{append-nil}
 use Rattle.std.proofs.lemmas.List.Concat.{flat_map-append}
@@ -13,7 +12,7 @@ use Rattle.script_text.specs.Script.{ScriptRecord, Say, statements_of, MayFollow
 use Rattle.script_text.proofs.Once as script
 use Rattle.script_text.proofs.Spelled.{spelled_once, no_comment}
 use Rattle.one_life_script.specs.OneLife.{EndsBook, EndNoBook, IsOneLifeScript, IsBadOfOne, IsFirstBadLineOfOne}
-use Rattle.one_life_script.proofs.Ends.{cut, IsNoEnd, some_no_end}
+use Rattle.one_life_script.proofs.Ends.{cut, IsNoEnd, some_no_end, says_nothing}
 
 -- the first of these rows ends a book, or it is bad as in any script
 
@@ -60,10 +59,6 @@ record Behind (rows : List (List ℕ)) (said said' : List (Option Statement)) : 
   more : List (Option Statement)
   say : Say rows more
   said_is : said ≡ said' ++ more
-
-says_nothing : (one : Option Statement) (more : List (Option Statement)) → Say [] (one ∷ more) → ⊥
-says_nothing None more say = say
-says_nothing (Some statement) more say = say
 
 say_behind : (before rows : List (List ℕ)) (said said' : List (Option Statement)) → Say (before ++ rows) said → Say before said' → Behind rows said said'
 say_behind [] rows said [] p q = record { more = said; say = p; said_is = refl }

@@ -1,4 +1,4 @@
-use Rattle.std.proofs.Common.{◌≡◌, ◌+◌, ◌<◌, ◌≤◌, ◌++◌, ◌∷◌, [], length, take, refl, ap, ◌∙◌, arith, length-set}
+use Rattle.std.proofs.Common.{◌≡◌, ◌+◌, ◌<◌, [], length, take, refl, ap, ◌∙◌, arith, length-set}
 use Rattle.std.proofs.lemmas.List.{take_more_set, length-take-le}
 use Rattle.nested_replay.proofs.Rows.{front_begins, comment_past, bus_past, shorter_comment, shorter_bus, front_done, front_bad}
 use Rattle.nested_replay.proofs.front.read_front.Goals.{in-Comment, in-Bus}

@@ -1,4 +1,4 @@
-use Rattle.nested_replay.proofs.Rows.{fault_in_front, fault_behind, fits_behind}
+use Rattle.nested_replay.proofs.Rows.{fits_behind}
 use Rattle.nested_replay.proofs.judging.judge.Goals as goal
 
 pub moved-requires : goal.moved-requires

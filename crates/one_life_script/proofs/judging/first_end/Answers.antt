@@ -2,7 +2,7 @@ use Rattle.std.proofs.Common.{◌≤◌, ◌∷◌, [], ◌++◌, ◌≡◌, tru
 use Rattle.script_text.specs.Reading.{row_at}
 use Rattle.script_text.proofs.Taken.{behind_short}
 use Rattle.one_life_script.specs.OneLife.{EndsBook}
-use Rattle.one_life_script.proofs.Ends.{rows_on, rows_past, past_one, all_past}
+use Rattle.one_life_script.proofs.Ends.{rows_on, rows_past, past_one}
 use Rattle.one_life_script.proofs.judging.first_end.Goals as goal
 
 pub returns-then-ends_book : goal.returns-then-ends_book

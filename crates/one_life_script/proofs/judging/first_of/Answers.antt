@@ -1,4 +1,4 @@
-use Rattle.std.proofs.Common.{◌≤◌, rules, arith}
+use Rattle.std.proofs.Common.{◌≤◌, rules}
 use Rattle.one_life_script.proofs.Ends.{bad_before_end, end_before_bad, end_of_good, told}
 use Rattle.one_life_script.proofs.judging.first_of.Goals as goal
 

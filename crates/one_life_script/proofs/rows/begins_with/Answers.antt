@@ -1,4 +1,3 @@
-use Rattle.std.proofs.Common.{rules}
 use Rattle.one_life_script.proofs.Front.{begins_is}
 use Rattle.one_life_script.proofs.rows.begins_with.Goals as goal
 
