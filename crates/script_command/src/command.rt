@@ -1,4 +1,4 @@
-ghost use Rattle.std.specs.Prelude.{◌≡◌, ◌⊎◌, ◌≤◌, ℕ, List};
+ghost use Rattle.std.specs.Prelude.{◌≡◌, ◌⊎◌, ◌≤◌, ℕ, List, length};
 ghost use Rattle.std.specs.Io.KnownBytes.{Appends};
 ghost use Rattle.stream_io.specs.Streams.{AppendsFront, Change, Fails, ReadsWhole, Works, change};
 ghost use Rattle.script_command.specs.Ends.{input_limit, written_end, IsScriptEnd};
@@ -42,6 +42,7 @@ fn write_told<O: Sink>(told: &Told, out: &mut O) -> Ended
 
 /// Writes the text of a script that was read.
 fn write_script<O: Sink, T: Script>(alloc: Global, bytes: &[u8], out: &mut O) -> Ended
+    requires short { length bytes.now ≤ input_limit }
     ensures ends { (input : Change) → ReadsWhole input_limit bytes.now input
         → IsScriptEnd T.text T.refuses result bytes.now input (change O.taken O.faults out.old out.new) }
     ensures nothing { (result ≡ Ended.Done → ⊥) → ((calls : ℕ) → result ≡ Ended.BookFull calls → ⊥)

@@ -1,6 +1,6 @@
-ghost use Rattle.std.specs.Prelude.{ℕ, List, Option, IfErr, IfOk};
+ghost use Rattle.std.specs.Prelude.{◌≤◌, ℕ, List, Option, IfErr, IfOk, length};
 ghost use Rattle.command_io.specs.declared.ended.Ended.{Ended as Ending};
-ghost use Rattle.script_command.specs.Ends.{HasNoText};
+ghost use Rattle.script_command.specs.Ends.{input_limit, HasNoText};
 
 use command_io::Ended;
 use std::alloc::Global;
@@ -24,6 +24,7 @@ pub trait Script {
 
     /// The text of the script that the bytes spell, or how the command ends that was given them.
     fn tell(alloc: Global, bytes: &[u8]) -> Result<Told, Ended>
+        requires short { length bytes.now ≤ input_limit }
         ensures text { IfOk result (λ told. text bytes.now told.full told.text.items) }
         ensures none { IfErr result (HasNoText (refuses bytes.now)) };
 }
