@@ -39,10 +39,10 @@ pub record IsFirstFull (book : BookRecord) (buses : List bus.Bus) (inverter raw 
   pub full : bus.Bus
   pub later : List bus.Bus
   pub are : buses ≡ before ++ full ∷ later
-  pub place : place ≡ length before
+  pub place_is : place ≡ length before
   pub room : HasRoomOnAll book before inverter raw
   pub lacks : LacksRoom book inverter raw full
-  pub left : left ≡ left_on book full
+  pub left_is : left ≡ left_on book full
 
 -- what the members of each bus have reserved is at most its cap
 abbrev pub ReservesUnderCaps : List bus.Bus → BookRecord → Type 0

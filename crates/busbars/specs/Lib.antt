@@ -1,3 +1,4 @@
 pub mod Buses
 pub mod Caps
 pub mod Applied
+pub mod Sums

@@ -1,3 +1,5 @@
+ghost use Rattle.std.specs.Prelude.{◌≡◌, ◌<◌, ◌≤◌, ◌↔◌, IsTrue};
+
 /// How many buses a plant has at most.
 pub const BUSES_MAX: usize = 32;
 
@@ -12,6 +14,32 @@ pub struct Bus {
     pub lo: u8,
     /// The number of its last inverter.
     pub hi: u8,
+}
+
+impl Bus {
+    ghost use Rattle.busbars.specs.Buses.{holds, Crosses};
+
+    /// Whether the inverter is on it.
+    pub(crate) fn holds(&self, inverter: u8) -> bool
+        ensures { result ≡ holds self.now inverter }
+    {
+        self.lo <= inverter && inverter <= self.hi
+    }
+
+    /// Whether it shares an inverter with the other, and neither holds all of the other.
+    pub(crate) fn crosses(&self, other: &Bus) -> bool
+        ensures { IsTrue result ↔ Crosses self.now other.now }
+    {
+        self.ends_within(other) || other.ends_within(self)
+    }
+
+    /// Whether it begins before the other, and ends within it before the other does.
+    fn ends_within(&self, other: &Bus) -> bool
+        ensures { IsTrue result
+            ↔ ((self.now.lo < other.now.lo) × (other.now.lo ≤ self.now.hi) × (self.now.hi < other.now.hi)) }
+    {
+        self.lo < other.lo && other.lo <= self.hi && self.hi < other.hi
+    }
 }
 
 /// Why a bus is refused, in the order in which it is tried.

@@ -6,7 +6,10 @@
 #![tactic(auto)]
 
 mod bus;
+mod entering;
+mod fault;
 mod plant;
+mod sums;
 
 pub use bus::{BUSES_MAX, Bus, BusCause, BusFault};
 pub use plant::{BusPlant, BusReply};

@@ -10,6 +10,8 @@ ghost use Rattle.busbars.specs.Caps.{ReservesUnderCaps, HoldsUnderCaps};
 ghost use Rattle.busbars.specs.Applied.{IsApplied};
 
 use crate::bus::{Bus, BusFault};
+use crate::entering::enter;
+use crate::fault::first_fault;
 use plant_book::{Call, MOMENT_MAX};
 use plant_ledger::{BookFull, Outcome, Plant};
 use std::marker::Model;
@@ -60,6 +62,14 @@ impl BusPlant {
         // Of each bus: what its inverters have reserved is at most its cap, and so is what they hold.
         ensures under { IfOk result (λ made. EachBook plant (ReservesUnderCaps buses.items)) }
         ensures holds { IfOk result (λ made. EachBook plant (HoldsUnderCaps buses.items)) }
+    {
+        // A plant's book is a kept one, as its count of calls tells.
+        let _calls = plant.calls();
+        match first_fault(&plant, &buses) {
+            Some(fault) => Err(fault),
+            None => Ok(BusPlant { plant, buses }),
+        }
+    }
 
     /// Enters a call and answers it. An Ask first enters a Tick of its moment; it is entered, and the plant's to answer,
     /// where each bus that holds the inverter has the room.
@@ -77,12 +87,21 @@ impl BusPlant {
 
         // The plant's own promises hold as without buses.
         ensures sound { EachBook self.new.book IsSound }
+    {
+        enter(&mut self.plant, &self.buses, call)
+    }
 
     /// The plant.
     pub fn plant(&self) -> &Plant
         ensures { result.now ≡ self.now.book }
+    {
+        &self.plant
+    }
 
     /// The buses, in their order.
     pub fn buses(&self) -> &[Bus]
         ensures { result.now ≡ self.now.buses }
+    {
+        &self.buses
+    }
 }

@@ -1,11 +1,13 @@
 -- What an input with buses is replayed as, and why it isn't.
-use Rattle.std.specs.Prelude.{◌≡◌, ℕ, List, [], ◌++◌, map, Option, None, Some}
+use Rattle.std.specs.Prelude.{◌≡◌, ℕ, ◌+◌, ◌^◌, ◌<◌, List, [], ◌++◌, map, Option, None, Some}
 use Rattle.plant_book.specs.declared.call.Call.{Call}
 use Rattle.plant_book.specs.Answered.{IsOpenable, IsBook}
 use Rattle.plant_ledger.specs.declared.opening.OpenFault.{OpenFault}
 use Rattle.plant_ledger.specs.Opening.{open_fault}
 use Rattle.plant_ledger.specs.Plant.{IsSound}
 use Rattle.script_text.specs.declared.line.Line.TheVariants as lines
+use Rattle.script_text.specs.declared.fault.ScriptFault.{ScriptFault}
+use Rattle.script_text.specs.declared.fault.ScriptFault.TheVariants as readings
 use Rattle.busbars.specs.declared.bus.BusFault.{BusFault}
 use Rattle.busbars.specs.Buses.{EachFits, IsFirstFault}
 use Rattle.busbars.specs.Caps.{HoldsUnderCaps}
@@ -47,12 +49,27 @@ pub record IsBusRefused (bytes : List ℕ) (fault : BusFault) : Type 0 where
   pub openable : open_fault nested.script.site ≡ None
   pub refused : IsFirstFault nested.script.site nested.buses fault
 
--- why an input isn't replayed: by its first bad line, then by its site, then by its buses; for want of memory only where
--- none of these stands
+-- Why an input isn't replayed: by its first bad line, then by its site, then by its buses. Want of memory is told only
+-- where the input has no bad line and its site is refused for nothing.
 abbrev pub Explains : NestedFault → List ℕ → Type 0
 Explains (faults.BadLine line kind) bytes = IsFirstBadNested bytes line kind
 Explains (faults.BadSite fault) bytes = IsSiteRefused bytes fault
 Explains (faults.BadBus fault) bytes = IsBusRefused bytes fault
 Explains faults.NoMemory bytes =
     HasNoBadNested bytes × ((fault : OpenFault) → IsSiteRefused bytes fault → ⊥)
-    × ((fault : BusFault) → IsBusRefused bytes fault → ⊥)
+
+-- why an input that was judged without taking memory isn't one: its first bad line
+abbrev pub IsBadNested : NestedFault → List ℕ → Type 0
+IsBadNested (faults.BadLine line kind) bytes = IsFirstBadNested bytes line kind
+IsBadNested (faults.BadSite fault) bytes = ⊥
+IsBadNested (faults.BadBus fault) bytes = ⊥
+IsBadNested faults.NoMemory bytes = ⊥
+
+-- the fault of a script behind so many rows, and its number fits 32 bits
+abbrev pub moved_fault : ScriptFault → ℕ → NestedFault
+moved_fault (readings.BadLine line kind) rows = faults.BadLine (rows + line) kind
+moved_fault readings.NoMemory rows = faults.NoMemory
+
+abbrev pub FitsBehind : ScriptFault → ℕ → Type 0
+FitsBehind (readings.BadLine line kind) rows = rows + line < 2 ^ 32
+FitsBehind readings.NoMemory rows = Unit {0}

@@ -1,0 +1,4 @@
+pub mod Front
+pub mod Ends
+pub mod Calls
+pub mod Once
