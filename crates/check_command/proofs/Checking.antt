@@ -40,6 +40,7 @@ cases ends.BadWords read input output row = inl row.0
 cases (ends.BadLine line kind) read input output row = inl row.0
 cases (ends.BookFull calls) read input output row = inl row.0
 cases (ends.Refused fault) read input output row = inl row.0
+cases (ends.BadBus fault) read input output row = inl row.0
 
 pub causes : (ended : Ended) (read : List ℕ) (input output : Change) → IsCheckEnd ended read input output → HasSiteCause ended input
 causes ended read input output row = elim (cases ended read input output row) [
@@ -85,3 +86,4 @@ within ends.BadWords read input output row is = absurd (omega (arith, status_of_
 within (ends.BadLine line kind) read input output row is = absurd (omega (arith, status_of_read (ends.BadLine line kind) is))
 within (ends.BookFull calls) read input output row is = absurd (omega (arith, status_of_read (ends.BookFull calls) is))
 within (ends.Refused fault) read input output row is = absurd (omega (arith, status_of_read (ends.Refused fault) is))
+within (ends.BadBus fault) read input output row is = absurd (omega (arith, status_of_read (ends.BadBus fault) is))

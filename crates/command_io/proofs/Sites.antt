@@ -61,6 +61,7 @@ no_site_causes ends.WriteFault read site row = absurd row
 no_site_causes (ends.BadLine line kind) read site row = absurd row
 no_site_causes (ends.BookFull calls) read site row = absurd row
 no_site_causes (ends.Refused fault) read site row = absurd row
+no_site_causes (ends.BadBus fault) read site row = absurd row
 
 -- which end comes
 
@@ -98,6 +99,7 @@ no_site_due ends.WriteFault read site row = absurd row
 no_site_due (ends.BadLine line kind) read site row = absurd row
 no_site_due (ends.BookFull calls) read site row = absurd row
 no_site_due (ends.Refused fault) read site row = absurd row
+no_site_due (ends.BadBus fault) read site row = absurd row
 
 -- where the source told a site file, it isn't found only for want of memory
 pub no_site_memory : (ended : Ended) (read : List ℕ) (site : Change) → FindsNoSite ended read site
@@ -115,3 +117,4 @@ no_site_memory ends.WriteFault read site row = absurd row
 no_site_memory (ends.BadLine line kind) read site row = absurd row
 no_site_memory (ends.BookFull calls) read site row = absurd row
 no_site_memory (ends.Refused fault) read site row = absurd row
+no_site_memory (ends.BadBus fault) read site row = absurd row

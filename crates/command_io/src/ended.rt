@@ -3,6 +3,7 @@ ghost use Rattle.command_io.specs.Ends.{status_of, kind_text, end_text};
 
 use crate::fault_text::{write_live_fault, write_site_fault};
 use crate::live_fault::LiveFault;
+use busbars::{BusCause, BusFault};
 use script_text::LineKind;
 use site_config::SiteFault;
 use std::fmt;
@@ -42,6 +43,8 @@ pub enum Ended {
     },
     /// A command over links was refused.
     Refused(LiveFault),
+    /// A bus of an input with buses is at fault, and this is the first such.
+    BadBus(BusFault),
 }
 
 /// The status with which the program ends.
@@ -59,6 +62,7 @@ pub fn status(ended: &Ended) -> u8
         Ended::NoMemory => 8,
         Ended::TooLong { .. } => 9,
         Ended::Refused(_) => 10,
+        Ended::BadBus(_) => 11,
     }
 }
 
@@ -98,6 +102,14 @@ impl Display for Ended {
             Ended::Refused(fault) => {
                 f.write_str("refused: ")?;
                 write_live_fault(f, *fault)
+            }
+            Ended::BadBus(fault) => {
+                let bus = fault.bus;
+                match fault.cause {
+                    BusCause::Range => write!(f, "badbus {bus} range"),
+                    BusCause::Crossing => write!(f, "badbus {bus} crossing"),
+                    BusCause::FloorsOver(sum) => write!(f, "badbus {bus} floorsover {sum}"),
+                }
             }
         }
     }

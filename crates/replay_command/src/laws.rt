@@ -6,7 +6,8 @@ ghost use Rattle.script_text.specs.Script.{IsFirstBadLine};
 ghost use Rattle.script_replay.specs.Replay.{IsReplay};
 ghost use Rattle.stream_io.specs.Streams.{Change, Fails, GainsFront, GainsText};
 ghost use Rattle.command_io.specs.declared.ended.Ended.{Ended};
-ghost use Rattle.replay_command.specs.Replay.{input_limit, HasBadSite, IsReplayEnd, IsReplayText, TellsSafeLives};
+ghost use Rattle.script_command.specs.Ends.{input_limit};
+ghost use Rattle.replay_command.specs.Replay.{HasBadSite, IsReplayEnd, IsReplayText, TellsSafeLives};
 
 /// What the end of a replay says of the bytes that its input told, and of its output.
 pub fn what_a_replay_says()

@@ -51,6 +51,7 @@ read_fault_is ends.WriteFault e = absurd cc
 read_fault_is ends.NoMemory e = absurd cc
 read_fault_is (ends.TooLong limit) e = absurd cc
 read_fault_is (ends.Refused fault) e = absurd cc
+read_fault_is (ends.BadBus fault) e = absurd cc
 
 -- the statuses of a run that was told of
 abbrev IsRunStatus : ℕ → Type 0
@@ -218,6 +219,7 @@ no_site_above ends.WriteFault read site row below = row
 no_site_above (ends.BadLine line kind) read site row below = row
 no_site_above (ends.BookFull calls) read site row below = row
 no_site_above (ends.Refused fault) read site row below = row
+no_site_above (ends.BadBus fault) read site row below = row
 
 module _ {N : Type 0} (links : N → Option Links) (faults : N → ℕ) (may_give : ℕ → Bool) (turns : ℕ) (read : List ℕ) (site console output : Change) (dialers dialers_now : List N) where
   abbrev IsEnd : Ended → Type 0

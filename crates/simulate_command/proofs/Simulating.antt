@@ -17,3 +17,4 @@ due simulation ends.BadWords output row = absurd row
 due simulation (ends.BadLine line kind) output row = absurd row
 due simulation (ends.BookFull calls) output row = absurd row
 due simulation (ends.Refused fault) output row = absurd row
+due simulation (ends.BadBus fault) output row = absurd row
