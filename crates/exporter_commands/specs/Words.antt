@@ -11,6 +11,10 @@ use Rattle.exporter_commands.specs.declared.words.Task.TheVariants as tasks
 abbrev pub AreReplay : List (List ℕ) → Type 0
 AreReplay words = words ≡ codes "replay" ∷ []
 
+-- the words are the one that asks for a replay of an input with buses
+abbrev pub AreNested : List (List ℕ) → Type 0
+AreNested words = words ≡ codes "nested" ∷ []
+
 -- the words are the one that asks for a check
 abbrev pub AreCheck : List (List ℕ) → Type 0
 AreCheck words = words ≡ codes "check" ∷ []
@@ -32,12 +36,13 @@ pub record AreSimulate (words : List (List ℕ)) (simulation : Simulation) : Typ
 -- the words ask for this command
 abbrev pub Asks : List (List ℕ) → Command → Type 0
 Asks words commands.Replay = AreReplay words
+Asks words commands.Nested = AreNested words
 Asks words commands.Check = AreCheck words
 Asks words (commands.Simulate simulation) = AreSimulate words simulation
 
 -- the words ask for a command that reads its input
 abbrev pub AskToRead : List (List ℕ) → Type 0
-AskToRead words = AreReplay words ⊎ AreCheck words
+AskToRead words = AreReplay words ⊎ AreNested words ⊎ AreCheck words
 
 -- the words ask for a run with so many turns of each worker
 pub record AreRun (words : List (List ℕ)) (turns : ℕ) : Type 0 where

@@ -1,7 +1,7 @@
 ghost use Rattle.std.specs.Prelude.{◌≡◌, List, [], ◌∷◌, IfNone, IfSome, map};
 ghost use Rattle.std.specs.String.{string_bytes};
 ghost use Rattle.simulate_command.specs.declared.command.Simulation.{Simulation};
-ghost use Rattle.exporter_commands.specs.Words.{AreCheck, AreReplay, AreSimulate, Asks};
+ghost use Rattle.exporter_commands.specs.Words.{AreCheck, AreNested, AreReplay, AreSimulate, Asks};
 
 use crate::words::number_of;
 use simulate_command::{INVERTERS_MAX, STEPS_MAX, Simulation};
@@ -11,6 +11,8 @@ use simulate_command::{INVERTERS_MAX, STEPS_MAX, Simulation};
 pub enum Command {
     /// Replays a script.
     Replay,
+    /// Replays a script of one life under the caps of buses.
+    Nested,
     /// Checks a site file.
     Check,
     /// Simulates a plant.
@@ -21,10 +23,12 @@ pub enum Command {
 fn command_of_one(name: &str) -> Option<Command>
     ensures some { IfSome result (Asks (name.now ∷ [])) }
     ensures no_replay { IfNone result (AreReplay (name.now ∷ []) → ⊥) }
+    ensures no_nested { IfNone result (AreNested (name.now ∷ []) → ⊥) }
     ensures no_check { IfNone result (AreCheck (name.now ∷ []) → ⊥) }
 {
     match name {
         "replay" => Some(Command::Replay),
+        "nested" => Some(Command::Nested),
         "check" => Some(Command::Check),
         _ => None,
     }
@@ -54,6 +58,7 @@ fn simulation_of(name: &str, seed: &str, inverters: &str, steps: &str) -> Option
 pub fn command_of(words: &Vec<String>) -> Option<Command>
     ensures some { IfSome result (Asks (map string_bytes words.now.items)) }
     ensures no_replay { IfNone result (AreReplay (map string_bytes words.now.items) → ⊥) }
+    ensures no_nested { IfNone result (AreNested (map string_bytes words.now.items) → ⊥) }
     ensures no_check { IfNone result (AreCheck (map string_bytes words.now.items) → ⊥) }
     ensures no_simulation { IfNone result ((simulation : Simulation)
         → AreSimulate (map string_bytes words.now.items) simulation → ⊥) }

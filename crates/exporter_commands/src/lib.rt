@@ -1,6 +1,6 @@
 //! The commands of the program by their words, over any input, output, links and clock.
 //!
-//! `plain` does those that need no link: `replay`, `check` and `simulate`. `live` does those over links: `run`,
+//! `plain` does those that need no link: `replay`, `nested`, `check` and `simulate`. `live` does those over links: `run`,
 //! `commission` and `serve`. Each command is a crate of its own, whose `specs/` say what its ends mean; the contracts
 //! here say which words ask for it. `exporter` hands `plain` and `live` the real world.
 #![tactic(auto)]

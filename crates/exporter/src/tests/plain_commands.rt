@@ -23,6 +23,28 @@ link 0 1 = linked 1
 ask 66701 0 1000 = granted 1 1
 ";
 
+/// The same script under a bus that holds both, and what is done of it.
+const BUSES: &str = "bus 4000000 0 1
+site 10000000 1000 4000 60 20 500 open 1000
+inverter 6000 0 -1 100
+inverter 6000 0 -1 100
+begin 0
+link 0 0
+link 0 1
+ask 66701 0 1000
+";
+
+const HELD_BACK: &str = "bus 4000000 0 1
+site 10000000 1000 4000 60 20 500 open 1000
+inverter 6000 0 -1 100
+inverter 6000 0 -1 100
+begin 0
+link 0 0 = linked 1
+link 0 1 = linked 1
+tick 66701 = total 1200000
+ask 66701 0 1000 = busfull 0 2800000
+";
+
 const SUMMARY: &str = "seed 7 inverters 4 steps 1000
 cap 12000000
 lives 1
@@ -65,6 +87,7 @@ fn each_command_writes_its_text_and_fails_midway(rt: HostRuntime) -> Result<(), 
     // The third read of the long script finds its end.
     let rows = [
         ("replay", SCRIPT, 9, 9, Ended::Done, LIVES),
+        ("nested", BUSES, 9, 9, Ended::Done, HELD_BACK),
         ("simulate 7 4 1000", "", 0, 9, Ended::Done, SUMMARY),
         ("replay", long.as_str(), 1, 9, Ended::ReadFault, ""),
         ("replay", long.as_str(), 3, 9, Ended::Done, LIVES),
