@@ -84,8 +84,10 @@ fn worked(
     requires dialers { inverters file.site ≤ vec_len dialers.old }
 {
     let start = clock.now();
-    let opening = open_site(alloc, file, 1_000, start);
-    let Opening { plant, mut workers } = opening.ok().ok_or("memory")?;
+    let Opening { plant, mut workers } = match open_site(alloc, file, 1_000, start) {
+        Ok(opening) => opening,
+        Err(_) => return Err("memory")?,
+    };
     Ok(run_plain(alloc, plant, &mut workers, dialers, clock))
 }
 
