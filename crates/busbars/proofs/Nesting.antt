@@ -1,10 +1,10 @@
 -- Two buses cross exactly where one begins before the other and ends within it.
-use Rattle.std.proofs.Common.{◌≡◌, ℕ, zero, suc, ◌<◌, ◌≤◌, ◌⊎◌, Bool, true, false, List, [], ◌∷◌, length, get_or, leb, refl, arith, inl, inr, MatchBool, ◌↔◌}
+use Rattle.std.proofs.Common.{◌≡◌, ℕ, zero, suc, ◌<◌, ◌≤◌, ◌⊎◌, Bool, true, false, List, [], ◌∷◌, length, leb, refl, arith, inl, inr, MatchBool}
 use Rattle.std.specs.Prelude.{IsTrue}
 use Rattle.std.specs.List.{HoldsAt, AllWithin, AllByRecursion}
 use Rattle.std.proofs.lemmas.Bool.{and_parts, and_from, leb-true, le-leb, cases_lt, false≢true}
 use Rattle.busbars.specs.declared.bus.Bus as bus
-use Rattle.busbars.specs.Buses.{holds, SharesOne, HoldsAll, Crosses, CrossesOne}
+use Rattle.busbars.specs.Buses.{holds, HoldsAll, Crosses, CrossesOne}
 
 pub is_on : (b : bus.Bus) (inverter : ℕ) → b.lo ≤ inverter → inverter ≤ b.hi → holds b inverter ≡ true
 is_on b inverter low high = and_from (leb b.lo inverter) (leb inverter b.hi) (le-leb b.lo inverter low) (le-leb inverter b.hi high)

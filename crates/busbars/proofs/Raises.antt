@@ -1,31 +1,25 @@
 -- What one more entry of a joined book leaves reserved: a grant raises it to its limit at the most, and nothing else
 -- raises it.
-use Rattle.std.proofs.Common.{◌≡◌, ℕ, ◌≤◌, max, Bool, true, false, not, cond, eqb, leb, ltb, List, [], ◌∷◌, ◌++◌, map, length, refl, sym, ap, subst, ◌∙◌, arith, inl, inr, ◌⊎◌}
+use Rattle.std.proofs.Common.{◌≡◌, ℕ, ◌≤◌, max, Bool, true, false, not, eqb, leb, ltb, List, [], ◌∷◌, ◌++◌, map, length, refl, sym, ap, ◌∙◌, arith, inl, inr}
 use Rattle.std.specs.Prelude.{filter, fold}
 use Rattle.std.proofs.lemmas.Bool.{cases_Bool, eq-eqb, ne_eqb}
 use Rattle.std.proofs.lemmas.List.{append-nil}
 use Rattle.limiter_num.specs.Timers.{last_moment}
-use Rattle.plant_book.specs.declared.call.Call.{Call}
-use Rattle.plant_book.specs.declared.call.Call.TheVariants as calls
-use Rattle.plant_book.specs.declared.call.Reply.{Reply}
 use Rattle.plant_book.specs.declared.call.Reply.TheVariants as replies
 use Rattle.plant_book.specs.declared.call.Write as writes
 use Rattle.plant_book.specs.declared.call.TheConstants.{REQUESTS_MAX, LIVE_MAX}
 use Rattle.plant_book.specs.declared.book.Entry.{Entry}
 use Rattle.plant_book.specs.Site.{mw_at, full_at, floor_at}
 use Rattle.plant_book.specs.Book.{BookRecord}
-use Rattle.plant_book.specs.Calls.{moment, at_moment}
+use Rattle.plant_book.specs.Calls.{moment}
 use Rattle.plant_book.specs.Requests.{link_number, requests}
-use Rattle.plant_book.specs.Writes.{grant_of, granted, ends, live}
+use Rattle.plant_book.specs.Writes.{granted, ends, live}
 use Rattle.plant_book.specs.Policy.{target_at}
 use Rattle.plant_book.specs.Reserved.{covering, reserved_at, reserved, unreserved_at, now_of}
-use Rattle.plant_book.specs.Answer.{reply_to, reply_to_ask, reply_by_policy, reply_by_watts, raise_at, write_at, silent_until}
+use Rattle.plant_book.specs.Answer.{reply_to_ask, reply_by_policy, reply_by_watts, raise_at, write_at, silent_until}
 use Rattle.plant_book.specs.Lifetime.{left_after, granted_to, LiveOn}
 use Rattle.plant_book.proofs.Granting.{rest_of}
 use Rattle.plant_book.proofs.Maxima.{fold_max-push}
-use Rattle.plant_book.proofs.Cap.{grant_cases}
-use Rattle.plant_ledger.specs.Account.{IsReplyTo}
-use Rattle.plant_ledger.proofs.Fitting.{fits_call}
 
 -- fewer values have no greater greatest
 greatest_of_fewer : {X : Type 0} (f : X → ℕ) (keeps : X → Bool) (d e : ℕ) (xs : List X) → d ≤ e → fold max d (map f (filter keeps xs)) ≤ fold max e (map f xs)

@@ -1,22 +1,20 @@
 -- Each bus stays under its cap, whatever call is entered, and so does what its members hold.
-use Rattle.std.proofs.Common.{◌≡◌, ℕ, ◌+◌, ◌-◌, ◌<◌, ◌≤◌, max, Bool, true, false, List, [], ◌∷◌, ◌++◌, length, Option, None, Some, refl, sym, ap, subst, ◌∙◌, arith, inl, inr}
+use Rattle.std.proofs.Common.{◌≡◌, ℕ, ◌+◌, ◌≤◌, max, Bool, true, false, List, [], None, sym, ap, subst, ◌∙◌, arith, inl, inr}
 use Rattle.std.specs.Prelude.{Result, Ok, Err}
-use Rattle.std.specs.List.{AllByRecursion, flat_map}
-use Rattle.std.proofs.lemmas.Bool.{cases_Bool, cases_eq, cases_lt}
+use Rattle.std.specs.List.{flat_map}
+use Rattle.std.proofs.lemmas.Bool.{cases_Bool, cases_lt}
 use Rattle.plant_book.specs.declared.call.Call.{Call}
 use Rattle.plant_book.specs.declared.call.Call.TheVariants as calls
 use Rattle.plant_book.specs.declared.call.Reply.{Reply}
 use Rattle.plant_book.specs.declared.call.Reply.TheVariants as replies
 use Rattle.plant_book.specs.declared.call.Write as writes
 use Rattle.plant_book.specs.declared.book.Entry.{Entry}
-use Rattle.plant_book.specs.Site.{SiteRecord, inverters, mw_at, floor_at}
+use Rattle.plant_book.specs.Site.{inverters, floor_at}
 use Rattle.plant_book.specs.Book.{BookRecord}
 use Rattle.plant_book.specs.Calls.{latest, at_moment, moment}
 use Rattle.plant_book.specs.Writes.{grant_of, granted}
 use Rattle.plant_book.specs.Reserved.{reserved, now_of}
-use Rattle.plant_book.specs.Answer.{silent_until, reply_to}
-use Rattle.plant_book.specs.Covered.{IsOneLife}
-use Rattle.plant_book.specs.History.{History, IsHistory}
+use Rattle.plant_book.specs.Answer.{reply_to}
 use Rattle.plant_book.specs.Safe.{held_mw}
 use Rattle.plant_book.specs.Part.{PartRecord, begin_of, book_behind, first_book}
 use Rattle.plant_book.specs.Carry.{IsBehind, EachBook}
@@ -27,15 +25,15 @@ use Rattle.plant_book.proofs.Cap.{grant_cases}
 use Rattle.plant_ledger.specs.declared.plant.BookFull.{BookFull}
 use Rattle.plant_ledger.specs.declared.plant.Outcome.{Outcome}
 use Rattle.plant_ledger.specs.Account.{IsReplyTo}
-use Rattle.plant_ledger.specs.Plant.{entry_of, with_one, entered, GoesOn}
+use Rattle.plant_ledger.specs.Plant.{entry_of, entered, GoesOn}
 use Rattle.plant_ledger.proofs.Accounts.{without_one}
 use Rattle.plant_ledger.proofs.Fitting.{fits_call}
 use Rattle.busbars.specs.declared.bus.Bus as bus
 use Rattle.busbars.specs.declared.plant.BusReply.{BusReply}
 use Rattle.busbars.specs.declared.plant.BusReply.TheVariants as told
-use Rattle.busbars.specs.Buses.{holds, floors_of, Fits, EachFits}
+use Rattle.busbars.specs.Buses.{holds, EachFits}
 use Rattle.busbars.specs.Caps.{reserved_on, left_on, asked_more, LacksRoom, HasRoomOnAll, ReservesUnderCaps, HoldsUnder, HoldsUnderCaps}
-use Rattle.busbars.specs.Applied.{IsThePlants, IsAsked, IsAskedBehindTick, IsPlain, IsApplied}
+use Rattle.busbars.specs.Applied.{IsThePlants, IsAsked, IsPlain, IsApplied}
 use Rattle.busbars.proofs.Lists.{all_both, all_weaker, each_that_fits}
 use Rattle.busbars.specs.Sums.{AreSums}
 use Rattle.busbars.proofs.Members.{members_le, members_raise, sum_below_same}

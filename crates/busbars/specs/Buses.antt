@@ -1,6 +1,5 @@
 -- Buses: parts of a plant that have caps of their own, and which lists of them a plant may have.
 use Rattle.std.specs.Prelude.{◌≡◌, ◌⊎◌, ℕ, ◌<◌, ◌≤◌, List, [], ◌∷◌, ◌++◌, length, nat_le, Bool, true, ◌&&◌, if◌then◌else◌}
-use Rattle.std.specs.List.{AllByRecursion}
 use Rattle.plant_book.specs.Sums.{sum_below}
 use Rattle.plant_book.specs.Site.{SiteRecord, inverters, floor_at}
 use Rattle.busbars.specs.declared.bus.Bus as bus

@@ -1,5 +1,5 @@
 -- What the members of a bus have reserved, what they may hold, and what is left under its cap.
-use Rattle.std.specs.Prelude.{◌≡◌, ◌⊎◌, ℕ, ◌-◌, ◌<◌, ◌≤◌, max, List, [], ◌∷◌, ◌++◌, length, true}
+use Rattle.std.specs.Prelude.{◌≡◌, ◌⊎◌, ℕ, ◌-◌, ◌<◌, ◌≤◌, max, List, ◌∷◌, ◌++◌, length, true}
 use Rattle.std.specs.List.{AllByRecursion}
 use Rattle.plant_book.specs.Site.{inverters, mw_at}
 use Rattle.plant_book.specs.Book.{BookRecord}

@@ -1,5 +1,5 @@
-use Rattle.std.proofs.Common.{◌≡◌, refl, sym, subst, arith}
-use Rattle.std.specs.Prelude.{Result, Ok, Err}
+use Rattle.std.proofs.Common.{refl, sym, subst}
+use Rattle.std.specs.Prelude.{Result}
 use Rattle.plant_ledger.specs.declared.plant.BookFull.{BookFull}
 use Rattle.busbars.specs.declared.plant.BusReply.{BusReply}
 use Rattle.busbars.specs.Applied.{IsApplied}

@@ -1,4 +1,4 @@
-use Rattle.std.proofs.Common.{◌≡◌, ◌+◌, ap, ◌∙◌, arith}
+use Rattle.std.proofs.Common.{◌+◌, ap, arith}
 use Rattle.plant_book.specs.Site.{SiteRecord, inverters, floor_at}
 use Rattle.busbars.proofs.Members.{sums_rise}
 use Rattle.busbars.proofs.fault.cause_of.Goals as goal

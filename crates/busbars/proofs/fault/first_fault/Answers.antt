@@ -1,4 +1,4 @@
-use Rattle.std.proofs.Common.{◌≡◌, suc, take, drop, get_or, sym, subst, arith}
+use Rattle.std.proofs.Common.{suc, take, drop, get_or, sym, subst}
 use Rattle.plant_book.specs.Site.{SiteRecord, inverters, floor_at}
 use Rattle.busbars.specs.Buses.{Fits, HasCause}
 use Rattle.busbars.specs.Sums.{AreSums}

@@ -1,7 +1,5 @@
-use Rattle.std.proofs.Common.{◌≡◌, List, [], subst}
-use Rattle.busbars.specs.declared.bus.Bus as bus
+use Rattle.std.proofs.Common.{[], subst}
 use Rattle.busbars.specs.Buses.{EachFits}
-use Rattle.busbars.specs.Caps.{ReservesUnderCaps}
 use Rattle.plant_book.specs.Part.{book_behind}
 use Rattle.busbars.proofs.Under.{fitting_each, holds_under}
 use Rattle.busbars.proofs.plant.BusPlant.new.Goals as goal
