@@ -9,7 +9,7 @@ use inverter_sim::Bank;
 use plant_book::Reply;
 use plant_ledger::Plant;
 use plant_run::run_plain;
-use site_config::{SiteFile, site_of};
+use site_config::{SITE_BYTES_MAX, SiteFile, site_of};
 use site_run::{Opening, open_site};
 use std::alloc::Global;
 use std::process::Abort;
@@ -51,7 +51,11 @@ fn site_file(alloc: Global) -> Result<SiteFile, Fail>
         let inverter = format!(in alloc; "{INVERTER}{port}\n")?;
         text.push_str(inverter.as_str())?;
     }
-    Ok(site_of(alloc, text.as_bytes()).ok().ok_or("a site")?)
+    let bytes = text.as_bytes();
+    if bytes.len() > SITE_BYTES_MAX {
+        return Err("a file of so few bytes")?;
+    }
+    Ok(site_of(alloc, bytes).ok().ok_or("a site")?)
 }
 
 /// A dialer for each inverter of the file, whose links reach a simulation of it.
