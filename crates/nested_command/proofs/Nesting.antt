@@ -1,5 +1,5 @@
--- An input with buses has one text or one end by which it is refused.
-use Rattle.std.proofs.Common.{◌≡◌, ℕ, List, Option, refl, sym, ap, ◌∙◌}
+-- An input with buses that has a text is refused by no end.
+use Rattle.std.proofs.Common.{◌≡◌, ℕ, List, Option, refl}
 use Rattle.nested_replay.specs.declared.replay.NestedFault.{NestedFault}
 use Rattle.nested_replay.specs.declared.replay.NestedFault.TheVariants as faults
 use Rattle.nested_replay.specs.Replay.{IsNestedReplay, IsSiteRefused, Explains}
@@ -52,15 +52,8 @@ NotRefused = (bytes : List ℕ) (full : Option ℕ) (text : List ℕ) (fault : N
 abbrev OneReplay : Type 0
 OneReplay = (bytes : List ℕ) (a b : Option ℕ) (x y : List ℕ) → IsNestedReplay bytes a x → IsNestedReplay bytes b y → (a ≡ b) × (x ≡ y)
 
-abbrev OneFault : Type 0
-OneFault = (bytes : List ℕ) (f g : NestedFault) → Explains f bytes → Explains g bytes → f ≡ g
-
-pub one_meaning : OneReplay → NotRefused → OneFault → OneMeaning IsNestedReplay RefusesNested
-one_meaning one stands one_fault = record {
+pub one_meaning : OneReplay → NotRefused → OneMeaning IsNestedReplay RefusesNested
+one_meaning one stands = record {
   one_full = λ bytes a b x y p q. (one bytes a b x y p q).0;
   not_refused = λ bytes full text ended p is. let found : FaultOf bytes ended = fault_of bytes ended is in found.3 (stands bytes full text found.0 p found.1);
-  one_refusal = λ bytes a b is other.
-      let f : FaultOf bytes a = fault_of bytes a is in
-      let h : FaultOf bytes b = fault_of bytes b other in
-      sym f.2 ∙ ap fault_end (one_fault bytes f.0 h.0 f.1 h.1) ∙ h.2;
 }

@@ -58,15 +58,23 @@ OneReplay = (bytes : List ℕ) (a b : Option ℕ) (x y : List ℕ) → IsReplay 
 abbrev OneFault : Type 0
 OneFault = (bytes : List ℕ) (f g : ReplayFault) → Explains f bytes → Explains g bytes → f ≡ g
 
-one_meaning : OneReplay → NotRefused → OneFault → OneMeaning IsReplay RefusesScript
-one_meaning one stands one_fault = record {
+one_meaning : OneReplay → NotRefused → OneMeaning IsReplay RefusesScript
+one_meaning one stands = record {
   one_full = λ bytes a b x y p q. (one bytes a b x y p q).0;
   not_refused = λ bytes full text ended p is. let found : FaultOf bytes ended = fault_of bytes ended is in found.3 (stands bytes full text found.0 p found.1);
-  one_refusal = λ bytes a b is other.
-      let f : FaultOf bytes a = fault_of bytes a is in
-      let h : FaultOf bytes b = fault_of bytes b other in
-      sym f.2 ∙ ap fault_end (one_fault bytes f.0 h.0 f.1 h.1) ∙ h.2;
 }
+
+-- a script is refused by one end at most
+one_refusal : OneFault → (bytes : List ℕ) (a b : Ended) → RefusesScript bytes a → RefusesScript bytes b → a ≡ b
+one_refusal one_fault bytes a b is other =
+    let f : FaultOf bytes a = fault_of bytes a is in
+    let h : FaultOf bytes b = fault_of bytes b other in
+    sym f.2 ∙ ap fault_end (one_fault bytes f.0 h.0 f.1 h.1) ∙ h.2
+
+ends_so : OneFault → (bytes : List ℕ) (ended refusal : Ended) → RefusesScript bytes refusal → RefusesScript bytes ended ⊎ (ended ≡ ends.NoMemory)
+    → (ended ≡ refusal) ⊎ (ended ≡ ends.NoMemory)
+ends_so one_fault bytes ended refusal is (inl other) = inl (one_refusal one_fault bytes ended refusal other is)
+ends_so one_fault bytes ended refusal is (inr none) = inr none
 
 abbrev Room : Type 0
 Room = (bytes : List ℕ) (fault : ReplayFault) → HasRoom bytes → Explains fault bytes → fault ≡ faults.NoMemory
@@ -89,10 +97,12 @@ with_room room full (ends.Refused fault) output bytes says has none = absurd say
 
 pub replay_due : OneReplay → NotRefused → OneFault → Room → RoomFull → (ended : Ended) (read : List ℕ) (input output : Change) → IsReplayEnd ended read input output → IsReplayDue ended input output
 replay_due one stands one_fault room full ended read input output row =
-    let comes : IsScriptDue IsReplay RefusesScript ended input output = due IsReplay RefusesScript (one_meaning one stands one_fault) ended read input output row in record {
+    let comes : IsScriptDue IsReplay RefusesScript ended input output = due IsReplay RefusesScript (one_meaning one stands) ended read input output row in record {
       complete = told IsReplay RefusesScript ended read input output _ row (λ bytes said within has works none. with_room room full ended output bytes (said works within) has none);
       full = if_some_more input.old _ _ (λ bytes is short calls text. is short (Some calls) text) comes.told;
-      refused_line = if_some_more input.old _ _ (λ bytes is short line kind. is short (ends.BadLine line kind)) comes.refused;
-      refused_site = if_some_more input.old _ _ (λ bytes is short fault. is short (ends.BadSite fault)) comes.refused;
+      refused_line = if_some_more input.old _ _
+          (λ bytes is short line kind bad works. ends_so one_fault bytes ended (ends.BadLine line kind) bad (is short (ends.BadLine line kind) bad works)) comes.refused;
+      refused_site = if_some_more input.old _ _
+          (λ bytes is short fault bad works. ends_so one_fault bytes ended (ends.BadSite fault) bad (is short (ends.BadSite fault) bad works)) comes.refused;
       beyond = comes.beyond;
     }

@@ -109,11 +109,10 @@ module _ (Text : List ℕ → Option ℕ → List ℕ → Type 0) (Refuses : Lis
       → ((bytes : List ℕ) → ((Fails input → ⊥) → length bytes ≤ input_limit → Says ended output bytes) → R bytes) → IfSome input.old R
   told ended read input output R row more = if_some_under input.old (λ bytes. length bytes ≤ input_limit → Says ended output bytes) R (says ended read input output row) more
 
-  -- bytes have one text at most, or are refused by one end
+  -- bytes that have a text are refused by no end, and were full at one place at most
   pub record OneMeaning : Type 0 where
     pub one_full : (bytes : List ℕ) (a b : Option ℕ) (x y : List ℕ) → Text bytes a x → Text bytes b y → a ≡ b
     pub not_refused : (bytes : List ℕ) (full : Option ℕ) (text : List ℕ) (ended : Ended) → Text bytes full text → Refuses bytes ended → ⊥
-    pub one_refusal : (bytes : List ℕ) (a b : Ended) → Refuses bytes a → Refuses bytes b → a ≡ b
 
   where_told : OneMeaning → (ended : Ended) (output : Change) (bytes : List ℕ) → Says ended output bytes → (full : Option ℕ) (text : List ℕ) → Text bytes full text → (Fails output → ⊥) → (ended ≡ written_end full) ⊎ (ended ≡ ends.NoMemory)
   where_told one ends.Done output bytes known full text is none = inl (ap written_end (one.one_full bytes None full known.0 text known.1 is))
@@ -128,13 +127,13 @@ module _ (Text : List ℕ → Option ℕ → List ℕ → Type 0) (Refuses : Lis
   where_told one ends.BadWords output bytes known full text is none = absurd known
   where_told one (ends.Refused fault) output bytes known full text is none = absurd known
 
-  where_refused : OneMeaning → (ended : Ended) (output : Change) (bytes : List ℕ) → Says ended output bytes → (refusal : Ended) → Refuses bytes refusal → (ended ≡ refusal) ⊎ (ended ≡ ends.NoMemory)
+  where_refused : OneMeaning → (ended : Ended) (output : Change) (bytes : List ℕ) → Says ended output bytes → (refusal : Ended) → Refuses bytes refusal → Refuses bytes ended ⊎ (ended ≡ ends.NoMemory)
   where_refused one ends.Done output bytes known refusal is = absurd (one.not_refused bytes None known.0 refusal known.1 is)
   where_refused one (ends.BookFull calls) output bytes known refusal is = absurd (one.not_refused bytes (Some calls) known.0 refusal known.1 is)
   where_refused one ends.WriteFault output bytes known refusal is = absurd (one.not_refused bytes known.1.1 known.1.0 refusal known.1.2 is)
-  where_refused one (ends.BadLine line kind) output bytes known refusal is = inl (one.one_refusal bytes (ends.BadLine line kind) refusal known is)
-  where_refused one (ends.BadSite fault) output bytes known refusal is = inl (one.one_refusal bytes (ends.BadSite fault) refusal known is)
-  where_refused one (ends.BadBus fault) output bytes known refusal is = inl (one.one_refusal bytes (ends.BadBus fault) refusal known is)
+  where_refused one (ends.BadLine line kind) output bytes known refusal is = inl known
+  where_refused one (ends.BadSite fault) output bytes known refusal is = inl known
+  where_refused one (ends.BadBus fault) output bytes known refusal is = inl known
   where_refused one ends.NoMemory output bytes known refusal is = inr refl
   where_refused one ends.ReadFault output bytes known refusal is = absurd known
   where_refused one (ends.TooLong limit) output bytes known refusal is = absurd known

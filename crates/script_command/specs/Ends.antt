@@ -78,9 +78,9 @@ pub record IsScriptDue
   pub told : IfSome input.old (λ bytes. length bytes ≤ input_limit
       → (full : Option ℕ) (text : List ℕ) → Text bytes full text
       → (Fails input → ⊥) → (Fails output → ⊥) → (ended ≡ written_end full) ⊎ (ended ≡ ends.NoMemory))
-  -- what is refused ends so, and so does what is too long
+  -- what is refused ends by an end that refuses it, and what is too long by its limit
   pub refused : IfSome input.old (λ bytes. length bytes ≤ input_limit
       → (refusal : Ended) → Refuses bytes refusal
-      → (Fails input → ⊥) → (ended ≡ refusal) ⊎ (ended ≡ ends.NoMemory))
+      → (Fails input → ⊥) → Refuses bytes ended ⊎ (ended ≡ ends.NoMemory))
   pub beyond : IfSome input.old (λ bytes. input_limit < length bytes
       → (Fails input → ⊥) → (ended ≡ ends.TooLong input_limit) ⊎ (ended ≡ ends.NoMemory))
